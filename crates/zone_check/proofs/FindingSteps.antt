@@ -5,12 +5,10 @@ use Rattle.dns_lexer.specs.declared.entry_tokens.EntryToken.{EntryToken}
 use Rattle.rdata_values.specs.declared.error.ErrorKind.{ErrorKind}
 use Rattle.zone_reader.specs.Directives.{directive_of}
 use Rattle.zone_reader.specs.declared.directive.Directive.{Directive}
-use Rattle.record_rules.specs.declared.rule.RecordRule.{RecordRule}
-use Rattle.finding_codes.specs.declared.code.Code.{Code}
+use Rattle.finding_codes.specs.declared.rule.Rule.{Rule}
 use Rattle.finding_codes.specs.declared.code.Code.TheVariants.{RelativeOrigin}
 use Rattle.zone_check.specs.declared.finding.About.TheVariants.{RuleAtToken, RuleOfRecord, Token}
 use Rattle.zone_check.specs.declared.finding.EntryFinding.{EntryFinding}
-use Rattle.zone_check.specs.Codes.{code_of_record_rule}
 use Rattle.zone_check.specs.DirectiveFindings.{IsDirectiveFinding, IsFindingOfWord, directive_named_by, relative_name_finding, relative_origin_finding}
 use Rattle.zone_check.specs.FindingSpans.{finding_of_entry, finding_of_token}
 use Rattle.zone_check.specs.NameFindings.{is_generic_token, own_owner}
@@ -66,18 +64,18 @@ with_field words i d h lt = ap (λ b. if b then None else slice_get (map token_s
 
 -- ---- where a rule is broken
 
-module _ (rule : RecordRule) (tokens words : List EntryToken) (code : Code) (coded : code ≡ code_of_record_rule rule) where
-  pub at_record : (f : EntryFinding) (o : Option TokenSeen) → f ≡ finding_of_entry code (RuleOfRecord rule) (map token_seen tokens) → o ≡ None → f ≡ finding_at_rule rule (map token_seen tokens) o
-  at_record f o is none = is ∙ ap (λ k. finding_of_entry k (RuleOfRecord rule) (map token_seen tokens)) coded ∙ sym (ap (finding_at_rule rule (map token_seen tokens)) none)
+module _ (rule : Rule) (tokens words : List EntryToken) where
+  pub at_record : (f : EntryFinding) (o : Option TokenSeen) → f ≡ finding_of_entry rule.code (RuleOfRecord rule) (map token_seen tokens) → o ≡ None → f ≡ finding_at_rule rule (map token_seen tokens) o
+  at_record f o is none = is ∙ sym (ap (finding_at_rule rule (map token_seen tokens)) none)
 
-  at_token : (f : EntryFinding) (t : TokenSeen) (o : Option TokenSeen) → f ≡ finding_of_token code (RuleAtToken rule) t → o ≡ Some t → f ≡ finding_at_rule rule (map token_seen tokens) o
-  at_token f t o is some = is ∙ ap (λ k. finding_of_token k (RuleAtToken rule) t) coded ∙ sym (ap (finding_at_rule rule (map token_seen tokens)) some)
+  at_token : (f : EntryFinding) (t : TokenSeen) (o : Option TokenSeen) → f ≡ finding_of_token rule.code (RuleAtToken rule) t → o ≡ Some t → f ≡ finding_at_rule rule (map token_seen tokens) o
+  at_token f t o is some = is ∙ sym (ap (finding_at_rule rule (map token_seen tokens)) some)
 
-  pub at_owner : (f : EntryFinding) (d : EntryToken) (b : Bool) → f ≡ finding_of_token code (RuleAtToken rule) (token_seen (get_or tokens 0 d)) → b ≡ false → (length tokens == 0) ≡ false
+  pub at_owner : (f : EntryFinding) (d : EntryToken) (b : Bool) → f ≡ finding_of_token rule.code (RuleAtToken rule) (token_seen (get_or tokens 0 d)) → b ≡ false → (length tokens == 0) ≡ false
       → f ≡ finding_at_rule rule (map token_seen tokens) (own_owner b (map token_seen tokens))
   at_owner f d b is own some = at_token f (token_seen (get_or tokens 0 d)) (own_owner b (map token_seen tokens)) is (its_owner b tokens d own some)
 
-  pub at_field : (f : EntryFinding) (i : ℕ) (d e : EntryToken) → f ≡ finding_of_token code (RuleAtToken rule) (token_seen (get_or words i d)) → i < length words → is_generic_token (token_seen (get_or words 0 e)) ≡ false
+  pub at_field : (f : EntryFinding) (i : ℕ) (d e : EntryToken) → f ≡ finding_of_token rule.code (RuleAtToken rule) (token_seen (get_or words i d)) → i < length words → is_generic_token (token_seen (get_or words 0 e)) ≡ false
       → f ≡ finding_at_rule rule (map token_seen tokens) (token_with_index (map token_seen words) i)
   at_field f i d e is lt plain =
       at_token f (token_seen (get_or words i d)) (token_with_index (map token_seen words) i) is (with_field words i d (has_fields words e (omega (arith, lt)) ∙ plain) lt)

@@ -7,6 +7,7 @@ pub mod GenerateSteps
 pub mod NameSteps
 pub mod NoneSteps
 pub mod OctetSteps
+pub mod PassedOver
 pub mod PlaceOrders
 pub mod PlacesAlone
 pub mod ScanLanes

@@ -1,13 +1,16 @@
 -- Findings that are collected in the order in which they are found, until all are known.
-use Rattle.std.specs.Prelude.{◌≡◌, ℕ, ◌+◌, ◌-◌, ◌*◌, ◌^◌, ◌<◌, ◌≤◌, min, length, List, [], ◌∷◌, ◌++◌, Option, Some, None}
+use Rattle.std.specs.Prelude.{◌≡◌, ℕ, ◌+◌, ◌-◌, ◌*◌, ◌^◌, ◌<◌, ◌≤◌, min, length, List, [], ◌∷◌, ◌++◌, false, Option, Some, None, option_to_list}
 use Rattle.std.specs.List.{AllZip}
+use Rattle.std.specs.Option.{IfSome}
+use Rattle.std.specs.Ordering.{is_lt}
 use Rattle.finding_codes.specs.Tally.{IsTally}
 use Rattle.finding_codes.specs.declared.code.Severity.{Severity}
 use Rattle.finding_codes.specs.declared.policy.Policy.{Policy}
 use Rattle.zone_check.specs.declared.collector.FindingCollector.{FindingCollector}
 use Rattle.zone_check.specs.declared.collector.FoundFinding.{FoundFinding}
+use Rattle.zone_check.specs.declared.finding_order.Kept.{Kept}
 use Rattle.zone_check.specs.declared.finding_order.KeptFinding.{KeptFinding}
-use Rattle.zone_check.specs.FindingOrder.{SendsShown, ShownFindings}
+use Rattle.zone_check.specs.FindingOrder.{ShownFindings, findings_of, weight_order}
 use Rattle.zone_check.specs.Shown.{IsSeverity, counted_severities}
 
 -- the severity of each of these findings, or that it is left out
@@ -44,22 +47,60 @@ number_after before (Some s ∷ severities) = number_after (next_number before) 
 abbrev pub ShowAlike : (most : ℕ) → (found kept : List KeptFinding) → Type 0
 ShowAlike most found kept = (more shown : List KeptFinding) → ShownFindings most (kept ++ more) shown → ShownFindings most (found ++ more) shown
 
+-- no finding that is not before this one by weight is shown, whatever is found before or after it
+abbrev pub IsLast : (most : ℕ) → (kept : List KeptFinding) → (last : KeptFinding) → Type 0
+IsLast most kept last = (more : List KeptFinding) (one : KeptFinding) → is_lt (weight_order one last) ≡ false → ShowAlike most ((kept ++ more) ++ one ∷ []) (kept ++ more)
+
+-- the same of a finding that may be missing
+abbrev pub IsLastIfAny : (most : ℕ) → (kept : List KeptFinding) → (last : Option KeptFinding) → Type 0
+IsLastIfAny most kept last = IfSome last (IsLast most kept)
+
+-- one finding more is shown as another would be, or as none
+abbrev pub AreShownAlike : (last one other : Option KeptFinding) → Type 0
+AreShownAlike last one other = (most : ℕ) (kept : List KeptFinding) → IsLastIfAny most kept last → ShowAlike most (kept ++ option_to_list one) (kept ++ option_to_list other)
+
 -- at most twice the number that is shown, unless all are
-abbrev pub IsFew : (most : ℕ) → (kept : List KeptFinding) → Type 0
+abbrev pub IsFew : {X : Type 0} → (most : ℕ) → (kept : List X) → Type 0
 IsFew most kept = 0 < most → length kept ≤ 2 * most
 
--- what is kept of a finding
-abbrev pub IsKeptFinding : Policy → (index : ℕ) → FoundFinding → Option KeptFinding → Type 0
-IsKeptFinding p index f kept = (severity : Option Severity) × IsSeverity p f.code f.is_refused f.is_excepted severity × (kept ≡ kept_if index f severity)
+-- what a finding is judged to be, if it may be shown
+abbrev pub IsJudged : Policy → (index : ℕ) → FoundFinding → Option KeptFinding → Type 0
+IsJudged p index f judged = (severity : Option Severity) × IsSeverity p f.code f.is_refused f.is_excepted severity × IfSome judged (λ k. kept_if index f severity ≡ Some k)
 
 -- what a collector has after these findings
-pub record HasCollected (found : List FoundFinding) (c : FindingCollector) : Type 0 where
+pub record HasCollected {T : Type 0} (found : List FoundFinding) (c : FindingCollector T) : Type 0 where
   pub severities : List (Option Severity)
   pub judged : AreSeverities c.policy found severities
-  pub kept : ShowAlike c.tally.most (counted_after 0 found severities) c.kept.items
+  pub kept : ShowAlike c.tally.most (counted_after 0 found severities) (findings_of c.kept.items)
   pub number : c.number ≡ number_after 0 severities
   pub tallied : IsTally (counted_severities severities) c.tally
+  pub last : IsLastIfAny c.tally.most (findings_of c.kept.items) c.last
 
--- a sink receives exactly those of these findings that are shown, after what it received before
-abbrev pub SendsShownOf : Policy → (most : ℕ) → List FoundFinding → (before after : List KeptFinding) → Type 0
-SendsShownOf p most found before after = (severities : List (Option Severity)) × AreSeverities p found severities × SendsShown most (counted_after 0 found severities) before after
+-- the same before the last of these findings is kept, if it may be shown
+pub record HasJudged {T : Type 0} (found : List FoundFinding) (one : Option KeptFinding) (c : FindingCollector T) : Type 0 where
+  pub severities : List (Option Severity)
+  pub judged : AreSeverities c.policy found severities
+  pub kept : ShowAlike c.tally.most (counted_after 0 found severities) (findings_of c.kept.items ++ option_to_list one)
+  pub number : c.number ≡ number_after 0 severities
+  pub tallied : IsTally (counted_severities severities) c.tally
+  pub last : IsLastIfAny c.tally.most (findings_of c.kept.items) c.last
+
+-- a collector after a finding that was judged
+abbrev pub HasOneMore : {T : Type 0} → FoundFinding → Option KeptFinding → (before after : FindingCollector T) → Type 0
+HasOneMore f one before after = (found : List FoundFinding) → HasCollected found before → HasJudged (found ++ f ∷ []) one after
+
+-- a collector after the finding that was judged last is kept
+abbrev pub HasKept : {T : Type 0} → KeptFinding → (before after : FindingCollector T) → Type 0
+HasKept one before after = (found : List FoundFinding) → HasJudged found (Some one) before → HasCollected found after
+
+-- and if it could not be kept
+abbrev pub HasNotKept : {T : Type 0} → KeptFinding → (before after : FindingCollector T) → Type 0
+HasNotKept one before after = (found : List FoundFinding) → HasJudged found (Some one) before → HasJudged found (Some one) after
+
+-- exactly those of these findings that are shown
+abbrev pub ShownOf : Policy → (most : ℕ) → List FoundFinding → (shown : List KeptFinding) → Type 0
+ShownOf p most found shown = (severities : List (Option Severity)) × AreSeverities p found severities × ShownFindings most (counted_after 0 found severities) shown
+
+-- of all findings that a collector has, these are shown
+abbrev pub AreShownOf : {T : Type 0} → FindingCollector T → (shown : List (Kept T)) → Type 0
+AreShownOf c shown = (found : List FoundFinding) → HasCollected found c → ShownOf c.policy c.tally.most found (findings_of shown)

@@ -5,15 +5,15 @@ use Rattle.std.specs.declared.cmp.Ordering.TheVariants.{Less}
 use Rattle.dns_lexer.specs.EntryTokens.{TokenSeen}
 use Rattle.rdata.specs.Types.{type_shapes}
 use Rattle.rdata_values.specs.Rtype as Rtype
-use Rattle.record_rules.specs.declared.rule.RecordRule.TheVariants.{CaaUnknown, CommentInData as CommentRule, NaptrBoth as BothRule, NaptrRegexp as RegexpRule, ReverseName as ReverseRule, SoaMailOneLabel, SoaRetry, TargetAddress as AddressRule, TxtWords as WordsRule, WildcardInside as WildcardRule}
 use Rattle.zone_rules.specs.declared.rule.Finding.{Finding}
-use Rattle.zone_rules.specs.declared.rule.Rule.TheVariants.{CnameLoop as CnameLoopRule, Duplicate as DuplicateRule, MissingGlue as GlueRule, TtlDiffers as TtlRule}
 use Rattle.zone_generate.specs.declared.format.NumberBase.TheVariants.{Nibbles}
 use Rattle.zone_generate.specs.declared.part.Part.{Part}
 use Rattle.zone_generate.specs.declared.part.Part.TheVariants.{Number}
 use Rattle.zone_reader.specs.declared.ttl.RecordTtl.TheVariants.{Explicit, Minimum}
 use Rattle.zonetext_report.specs.Lint.{remark}
-use Rattle.finding_codes.specs.declared.code.Code.TheVariants.{CaaTag, CommentInData, ControlOctet, ControlZ, Data, GenerateDot, Glue, MaxEntry, MaxTtl, MissingDot, NaptrBoth, NaptrRegexp, NoOrigin, NoOwner, ReverseName, SoaMinimumTtl, SoaTimers, SpfType, TargetAddress, Ttl, TxtWords, WildcardInside}
+use Rattle.finding_codes.specs.Rule.{coded_rule}
+use Rattle.finding_codes.specs.Table.{finding_rows, way_rows}
+use Rattle.finding_codes.specs.declared.code.Code.TheVariants.{CaaTag, CnameLoop, CommentInData, ControlOctet, ControlZ, Data, Duplicate, GenerateDot, Glue, MaxEntry, MaxTtl, MissingDot, NaptrBoth, NaptrRegexp, NoOrigin, NoOwner, ReverseName, SoaMail, SoaMinimumTtl, SoaTimers, SpfType, TargetAddress, Ttl, TtlDiffers, TxtWords, WildcardInside}
 use Rattle.finding_codes.specs.declared.code.Severity.TheVariants.{Error, Warning}
 use Rattle.zone_check.specs.declared.entry.EntryKind.TheVariants.{Blank, OneRecord, TooLong}
 use Rattle.zone_check.specs.declared.finding.About.TheVariants.{Entry, Octets, Rejection, RuleAtToken, RuleOfRecord, Token}
@@ -124,42 +124,51 @@ ohttp_alone : has_ohttp_value Rtype.svcb (0 ∷ 1 ∷ 1 ∷ 120 ∷ 0 ∷ 0 ∷ 
 ohttp_alone = refl
 
 -- `@ SOA a b 1 60 90 ..`: retry is the fifth field
-retry : rule_finding SoaRetry Rtype.soa false (word_at 0 (codes "@") ∷ [])
-    (word_at 6 (codes "a") ∷ word_at 8 (codes "b") ∷ word_at 10 (codes "1") ∷ word_at 12 (codes "60") ∷ word_at 15 (codes "90") ∷ []) ≡ finding_at SoaTimers 15 2 (RuleAtToken SoaRetry)
+retry : rule_finding (coded_rule SoaTimers 0) Rtype.soa false (word_at 0 (codes "@") ∷ [])
+    (word_at 6 (codes "a") ∷ word_at 8 (codes "b") ∷ word_at 10 (codes "1") ∷ word_at 12 (codes "60") ∷ word_at 15 (codes "90") ∷ []) ≡ finding_at SoaTimers 15 2 (RuleAtToken (coded_rule SoaTimers 0))
+unfolding finding_rows way_rows
 retry = refl
 
 -- `c NAPTR 1 1 "u" "x" "!a!b" .`: the regexp is the fifth field, with its quotes
-regexp : rule_finding RegexpRule Rtype.naptr false (word_at 0 (codes "c") ∷ [])
+regexp : rule_finding (coded_rule NaptrRegexp 0) Rtype.naptr false (word_at 0 (codes "c") ∷ [])
     (word_at 8 (codes "1") ∷ word_at 10 (codes "1") ∷ quoted_at 12 (codes "u") ∷ quoted_at 16 (codes "x") ∷ quoted_at 20 (codes "!a!b") ∷ word_at 27 (codes ".") ∷ [])
-    ≡ finding_at NaptrRegexp 20 6 (RuleAtToken RegexpRule)
+    ≡ finding_at NaptrRegexp 20 6 (RuleAtToken (coded_rule NaptrRegexp 0))
+unfolding finding_rows way_rows
 regexp = refl
 
 -- `r CAA 0 isue "ca.example"`, `r MX 10 192.0.2.1`, `r TXT v=spf1 a -all`, `r TXT v=DKIM1; p=abc`
-unknown_tag : rule_finding CaaUnknown Rtype.caa false (word_at 0 (codes "r") ∷ []) (word_at 6 (codes "0") ∷ word_at 8 (codes "isue") ∷ quoted_at 13 (codes "ca.example") ∷ []) ≡ finding_at CaaTag 8 4 (RuleAtToken CaaUnknown)
+unknown_tag : rule_finding (coded_rule CaaTag 0) Rtype.caa false (word_at 0 (codes "r") ∷ []) (word_at 6 (codes "0") ∷ word_at 8 (codes "isue") ∷ quoted_at 13 (codes "ca.example") ∷ []) ≡ finding_at CaaTag 8 4 (RuleAtToken (coded_rule CaaTag 0))
+unfolding finding_rows way_rows
 unknown_tag = refl
 
-address : rule_finding AddressRule Rtype.mx false (word_at 0 (codes "r") ∷ []) (word_at 5 (codes "10") ∷ word_at 8 (codes "192.0.2.1") ∷ []) ≡ finding_at TargetAddress 8 9 (RuleAtToken AddressRule)
+address : rule_finding (coded_rule TargetAddress 0) Rtype.mx false (word_at 0 (codes "r") ∷ []) (word_at 5 (codes "10") ∷ word_at 8 (codes "192.0.2.1") ∷ []) ≡ finding_at TargetAddress 8 9 (RuleAtToken (coded_rule TargetAddress 0))
+unfolding finding_rows way_rows
 address = refl
 
-words : rule_finding WordsRule Rtype.txt false (word_at 0 (codes "r") ∷ []) (word_at 6 (codes "v=spf1") ∷ word_at 13 (codes "a") ∷ word_at 15 (codes "-all") ∷ []) ≡ finding_at TxtWords 6 6 (RuleAtToken WordsRule)
+words : rule_finding (coded_rule TxtWords 0) Rtype.txt false (word_at 0 (codes "r") ∷ []) (word_at 6 (codes "v=spf1") ∷ word_at 13 (codes "a") ∷ word_at 15 (codes "-all") ∷ []) ≡ finding_at TxtWords 6 6 (RuleAtToken (coded_rule TxtWords 0))
+unfolding finding_rows way_rows
 words = refl
 
-comment : rule_finding CommentRule Rtype.txt false (word_at 0 (codes "r") ∷ []) (word_at 6 (codes "v=DKIM1") ∷ []) ≡ finding_at CommentInData 6 7 (RuleAtToken CommentRule)
+comment : rule_finding (coded_rule CommentInData 0) Rtype.txt false (word_at 0 (codes "r") ∷ []) (word_at 6 (codes "v=DKIM1") ∷ []) ≡ finding_at CommentInData 6 7 (RuleAtToken (coded_rule CommentInData 0))
+unfolding finding_rows way_rows
 comment = refl
 
 -- `b.*.a TXT "c"`: the owner
-wildcard_inside : rule_finding WildcardRule Rtype.txt false (word_at 0 (codes "b.*.a") ∷ word_at 6 (codes "TXT") ∷ quoted_at 10 (codes "c") ∷ []) (quoted_at 10 (codes "c") ∷ []) ≡ finding_at WildcardInside 0 5 (RuleAtToken WildcardRule)
+wildcard_inside : rule_finding (coded_rule WildcardInside 0) Rtype.txt false (word_at 0 (codes "b.*.a") ∷ word_at 6 (codes "TXT") ∷ quoted_at 10 (codes "c") ∷ []) (quoted_at 10 (codes "c") ∷ []) ≡ finding_at WildcardInside 0 5 (RuleAtToken (coded_rule WildcardInside 0))
+unfolding finding_rows way_rows
 wildcard_inside = refl
 
 -- `c NAPTR \# 17 ..` has no fields: the record as a whole
-generic_data : rule_finding BothRule Rtype.naptr false (word_at 0 (codes "c") ∷ word_at 2 (codes "NAPTR") ∷ word_at 8 (codes "\\#") ∷ []) (word_at 8 (codes "\\#") ∷ []) ≡ finding_at NaptrBoth 0 1 (RuleOfRecord BothRule)
+generic_data : rule_finding (coded_rule NaptrBoth 0) Rtype.naptr false (word_at 0 (codes "c") ∷ word_at 2 (codes "NAPTR") ∷ word_at 8 (codes "\\#") ∷ []) (word_at 8 (codes "\\#") ∷ []) ≡ finding_at NaptrBoth 0 1 (RuleOfRecord (coded_rule NaptrBoth 0))
+unfolding finding_rows way_rows
 generic_data = refl
 
-inherited_owner : rule_finding ReverseRule Rtype.ptr true (word_at 1 (codes "PTR") ∷ word_at 5 (codes "a.") ∷ []) (word_at 5 (codes "a.") ∷ []) ≡ finding_at ReverseName 1 3 (RuleOfRecord ReverseRule)
+inherited_owner : rule_finding (coded_rule ReverseName 0) Rtype.ptr true (word_at 1 (codes "PTR") ∷ word_at 5 (codes "a.") ∷ []) (word_at 5 (codes "a.") ∷ []) ≡ finding_at ReverseName 1 3 (RuleOfRecord (coded_rule ReverseName 0))
+unfolding finding_rows way_rows
 inherited_owner = refl
 
 -- the root is assumed as the origin: a mail name of one label is not a slip
-mail_below_root : rule_findings Rtype.soa (record { begins_blank = false; is_below_root = true }) [] [] (SoaMailOneLabel ∷ []) ≡ []
+mail_below_root : rule_findings Rtype.soa (record { begins_blank = false; is_below_root = true }) [] [] (coded_rule SoaMail 1 ∷ []) ≡ []
 mail_below_root = refl
 
 -- two are shown, and one that is left out is not counted
@@ -234,24 +243,26 @@ left_out = refl
 
 -- the fourth record has no glue: at its target, in a zone whose records were all read
 abbrev lost_glue : Finding
-lost_glue = record { rule = GlueRule; «record» = Some 3 }
+lost_glue = record { rule = coded_rule Glue 0; «record» = Some 3 }
 
-glue_at_target : reported_finding (record { is_zone = true; has_gap = false }) lost_glue ≡ Some (record { code = Glue; rule = GlueRule; «record» = Some 3; is_at_target = true })
+glue_at_target : reported_finding (record { is_zone = true; has_gap = false }) lost_glue ≡ Some (record { rule = coded_rule Glue 0; «record» = Some 3; is_at_target = true })
+unfolding finding_rows
 glue_at_target = refl
 
 glue_after_gap : reported_finding (record { is_zone = true; has_gap = true }) lost_glue ≡ None
+unfolding finding_rows
 glue_after_gap = refl
 
 -- without a zone two TTLs of an RRset are reported, and a CNAME that leads to itself is not
-ttl_without_zone : is_reported_rule TtlRule (record { is_zone = false; has_gap = true }) ≡ true
+ttl_without_zone : is_reported_rule (coded_rule TtlDiffers 0) (record { is_zone = false; has_gap = true }) ≡ true
 ttl_without_zone = refl
 
-loop_without_zone : is_reported_rule CnameLoopRule (record { is_zone = false; has_gap = false }) ≡ false
+loop_without_zone : is_reported_rule (coded_rule CnameLoop 0) (record { is_zone = false; has_gap = false }) ≡ false
 loop_without_zone = refl
 
 -- two duplicates of one directive: once
 abbrev duplicate_at : ℕ → BrokenRule
-duplicate_at place = record { finding = record { rule = DuplicateRule; «record» = Some place }; directive = Some (record { file = 0; line = 7 }) }
+duplicate_at place = record { finding = record { rule = coded_rule Duplicate 0; «record» = Some place }; directive = Some (record { file = 0; line = 7 }) }
 
 duplicates_once : without_repeats [] (duplicate_at 4 ∷ duplicate_at 9 ∷ []) ≡ duplicate_at 4 ∷ []
 duplicates_once = refl

@@ -1,19 +1,22 @@
 -- The rules that a record alone breaks, and where.
-use Rattle.std.specs.Prelude.{ℕ, ◌≡◌, ◌-◌, ◌==◌, ◌||◌, not, if◌then◌else◌, Bool, true, false, List, [], ◌∷◌, ◌++◌, drop, filter, length, map, slice_get, Option, Some, None, MatchOption}
+use Rattle.std.specs.Prelude.{ℕ, ◌≡◌, ◌-◌, ◌==◌, ◌&&◌, ◌||◌, not, if◌then◌else◌, Bool, true, false, List, [], ◌∷◌, ◌++◌, drop, filter, length, map, slice_get, Option, Some, None, MatchOption}
 use Rattle.std.specs.List.{list_any}
 use Rattle.dns_lexer.specs.EntryTokens.{TokenSeen, token_seen}
 use Rattle.dns_lexer.specs.declared.entry_tokens.EntryToken.{EntryToken}
+use Rattle.finding_codes.specs.Rule.{rule_part}
+use Rattle.finding_codes.specs.declared.code.Code.{Code}
+use Rattle.finding_codes.specs.declared.code.Code.TheVariants.{SoaMail}
+use Rattle.finding_codes.specs.declared.rule.Rule.{Rule}
+use Rattle.finding_codes.specs.declared.table.Part.{Part}
+use Rattle.finding_codes.specs.declared.table.Part.TheVariants.{Whole, Owner as OwnOwner, Target, Last, Field}
 use Rattle.rdata_fields.specs.declared.record_ref.RecordRef.{RecordRef}
 use Rattle.rdata_values.specs.Rtype as Rtype
 use Rattle.rdata_values.specs.declared.types.RecordType.{RecordType}
 use Rattle.record_rules.specs.FoundAlone.{found_alone}
-use Rattle.record_rules.specs.declared.rule.RecordRule.{RecordRule}
-use Rattle.record_rules.specs.declared.rule.RecordRule.TheVariants.{SpfType, NaptrRegexp, NaptrBoth, CaaUnknown, CaaCritical, CaaCapitals, SoaMailAtSign, SoaMailOneLabel, SoaRetry, SoaExpire, SoaMinimum, ReverseName, WildcardInside, TargetAddress, TxtWords, CommentInData}
 use Rattle.record_rules.specs.declared.written.Written.{Written}
 use Rattle.zone_check.specs.declared.finding.About.TheVariants.{RuleAtToken, RuleOfRecord}
 use Rattle.zone_check.specs.declared.finding.EntryFinding.{EntryFinding}
 use Rattle.zone_check.specs.declared.rule_findings.RuleContext.{RuleContext}
-use Rattle.zone_check.specs.Codes.{code_of_record_rule}
 use Rattle.zone_check.specs.EntryWords.{AreDataTokens}
 use Rattle.zone_check.specs.FindingSpans.{finding_of_entry, finding_of_token}
 use Rattle.zone_check.specs.NameFindings.{is_generic_token, own_owner}
@@ -45,34 +48,25 @@ IsWrittenAs octets words r =
 abbrev pub target_index : RecordType → ℕ
 target_index rtype = if rtype == Rtype.ns || rtype == Rtype.cname || rtype == Rtype.ptr then 0 else if rtype == Rtype.srv then 3 else 1
 
--- the index of the field that breaks a rule, if it is one, among a number of tokens
-abbrev pub field_of_rule : RecordRule → RecordType → (count : ℕ) → Option ℕ
-field_of_rule NaptrRegexp rtype count = Some 4
-field_of_rule NaptrBoth rtype count = Some 5
-field_of_rule CaaUnknown rtype count = Some 1
-field_of_rule CaaCritical rtype count = Some 1
-field_of_rule CaaCapitals rtype count = Some 1
-field_of_rule SoaMailAtSign rtype count = Some 1
-field_of_rule SoaMailOneLabel rtype count = Some 1
-field_of_rule SoaRetry rtype count = Some 4
-field_of_rule SoaExpire rtype count = Some 5
-field_of_rule SoaMinimum rtype count = Some 6
-field_of_rule TargetAddress rtype count = Some (target_index rtype)
-field_of_rule TxtWords rtype count = Some 0
-field_of_rule CommentInData rtype count = Some (count - 1)
-field_of_rule SpfType rtype count = None
-field_of_rule ReverseName rtype count = None
-field_of_rule WildcardInside rtype count = None
+-- the index of a part among the fields, if it is one of them, of a number of tokens
+abbrev pub index_of_part : Part → RecordType → (count : ℕ) → Option ℕ
+index_of_part (Field index) rtype count = Some index
+index_of_part Target rtype count = Some (target_index rtype)
+index_of_part Last rtype count = Some (count - 1)
+index_of_part OwnOwner rtype count = None
+index_of_part Whole rtype count = None
 
-abbrev pub is_of_owner : RecordRule → Bool
-is_of_owner ReverseName = true
-is_of_owner WildcardInside = true
-is_of_owner _ = false
+abbrev pub is_owner : Part → Bool
+is_owner OwnOwner = true
+is_owner _ = false
 
--- one label is a whole mail name only if an origin is known
-abbrev pub is_omitted_rule : RecordRule → (is_below_root : Bool) → Bool
-is_omitted_rule SoaMailOneLabel is_below_root = is_below_root
-is_omitted_rule _ is_below_root = false
+abbrev is_soa_mail : Code → Bool
+is_soa_mail SoaMail = true
+is_soa_mail _ = false
+
+-- one label, the second way of `soa-mail`, is a whole mail name only if an origin is known
+abbrev pub is_omitted_rule : Rule → (is_below_root : Bool) → Bool
+is_omitted_rule rule is_below_root = is_below_root && (is_soa_mail rule.code && rule.way == 1)
 
 -- the token of a field, if RDATA has fields
 abbrev pub token_with_index : List TokenSeen → ℕ → Option TokenSeen
@@ -83,16 +77,16 @@ token_of_field words None = None
 token_of_field words (Some index) = token_with_index words index
 
 -- at the token that breaks the rule, or at the record as a whole
-abbrev pub finding_at_rule : RecordRule → List TokenSeen → Option TokenSeen → EntryFinding
-finding_at_rule rule tokens None = finding_of_entry (code_of_record_rule rule) (RuleOfRecord rule) tokens
-finding_at_rule rule tokens (Some t) = finding_of_token (code_of_record_rule rule) (RuleAtToken rule) t
+abbrev pub finding_at_rule : Rule → List TokenSeen → Option TokenSeen → EntryFinding
+finding_at_rule rule tokens None = finding_of_entry rule.code (RuleOfRecord rule) tokens
+finding_at_rule rule tokens (Some t) = finding_of_token rule.code (RuleAtToken rule) t
 
 -- the owner breaks the rule, or a field of RDATA
-abbrev pub rule_finding : RecordRule → RecordType → (begins_blank : Bool) → (tokens words : List TokenSeen) → EntryFinding
-rule_finding rule rtype begins_blank tokens words = finding_at_rule rule tokens (if is_of_owner rule then own_owner begins_blank tokens else token_of_field words (field_of_rule rule rtype (length words)))
+abbrev pub rule_finding : Rule → RecordType → (begins_blank : Bool) → (tokens words : List TokenSeen) → EntryFinding
+rule_finding rule rtype begins_blank tokens words = finding_at_rule rule tokens (if is_owner (rule_part rule) then own_owner begins_blank tokens else token_of_field words (index_of_part (rule_part rule) rtype (length words)))
 
 -- a finding for each rule that is not omitted
-abbrev pub rule_findings : RecordType → RuleContext → (tokens words : List TokenSeen) → List RecordRule → List EntryFinding
+abbrev pub rule_findings : RecordType → RuleContext → (tokens words : List TokenSeen) → List Rule → List EntryFinding
 rule_findings rtype c tokens words rules = map (λ rule. rule_finding rule rtype c.begins_blank tokens words) (filter (λ rule. not (is_omitted_rule rule c.is_below_root)) rules)
 
 -- the rules that a record breaks, as it is written

@@ -1,48 +1,39 @@
 -- The findings about the records of a zone.
 use Rattle.std.specs.Prelude.{◌≡◌, ◌==◌, ◌&&◌, not, if◌then◌else◌, Bool, true, false, List, [], ◌∷◌, ◌++◌, option_to_list, Option, Some, None}
 use Rattle.std.specs.List.{flat_map, list_any}
+use Rattle.finding_codes.specs.Code.{is_of_absence}
+use Rattle.finding_codes.specs.Table.{row_of_code}
+use Rattle.finding_codes.specs.declared.code.Code.{Code}
+use Rattle.finding_codes.specs.declared.code.Code.TheVariants.{TtlDiffers, Duplicate}
+use Rattle.finding_codes.specs.declared.rule.Rule.{Rule}
+use Rattle.finding_codes.specs.declared.table.Part.{Part}
+use Rattle.finding_codes.specs.declared.table.Part.TheVariants.{Target}
 use Rattle.zone_rules.specs.declared.rule.Finding.{Finding}
-use Rattle.zone_rules.specs.declared.rule.Rule.{Rule}
-use Rattle.zone_rules.specs.declared.rule.Rule.TheVariants.{NoSoa, NoNs, NsAddress, MissingGlue, HostIsAlias, HostBelowDname, HostMissing, CdsWithoutKey, DsWithoutNs, CnameTargetMissing, WeakDigest, SingleNs, TtlDiffers, Duplicate}
-use Rattle.zone_check.specs.Codes.{code_of_zone_rule}
 use Rattle.zone_check.specs.declared.zone_findings.BrokenRule.{BrokenRule}
 use Rattle.zone_check.specs.declared.zone_findings.DirectiveLine.{DirectiveLine}
 use Rattle.zone_check.specs.declared.zone_findings.ZoneContext.{ZoneContext}
 use Rattle.zone_check.specs.declared.zone_findings.ZoneFinding.{ZoneFinding}
 
--- a record is missing
-abbrev pub is_missing_record : Rule → Bool
-is_missing_record NoSoa = true
-is_missing_record NoNs = true
-is_missing_record NsAddress = true
-is_missing_record MissingGlue = true
-is_missing_record HostMissing = true
-is_missing_record CdsWithoutKey = true
-is_missing_record DsWithoutNs = true
-is_missing_record CnameTargetMissing = true
-is_missing_record WeakDigest = true
-is_missing_record SingleNs = true
-is_missing_record _ = false
+abbrev is_target : Part → Bool
+is_target Target = true
+is_target _ = false
 
 -- about the target in the RDATA
-abbrev pub is_at_target : Rule → Bool
-is_at_target NsAddress = true
-is_at_target MissingGlue = true
-is_at_target HostIsAlias = true
-is_at_target HostBelowDname = true
-is_at_target HostMissing = true
-is_at_target CnameTargetMissing = true
-is_at_target _ = false
+abbrev pub is_at_target : Code → Bool
+is_at_target c = is_target (row_of_code c).part
 
 -- those of RRsets always, others only of a zone, and that a record is missing only if all records were read
-abbrev pub is_reported_rule : Rule → ZoneContext → Bool
-is_reported_rule Duplicate c = true
-is_reported_rule TtlDiffers c = true
-is_reported_rule rule c = c.is_zone && not (c.has_gap && is_missing_record rule)
+abbrev pub is_reported_code : Code → ZoneContext → Bool
+is_reported_code Duplicate c = true
+is_reported_code TtlDiffers c = true
+is_reported_code code c = c.is_zone && not (c.has_gap && is_of_absence code)
 
--- the code of the rule, at the record that breaks it
+abbrev pub is_reported_rule : Rule → ZoneContext → Bool
+is_reported_rule rule c = is_reported_code rule.code c
+
+-- at the record that breaks the rule, or at its target
 abbrev pub zone_finding : Finding → ZoneFinding
-zone_finding f = record { code = code_of_zone_rule f.rule; rule = f.rule; «record» = f.record; is_at_target = is_at_target f.rule }
+zone_finding f = record { rule = f.rule; «record» = f.record; is_at_target = is_at_target f.rule.code }
 
 abbrev pub reported_finding : ZoneContext → Finding → Option ZoneFinding
 reported_finding c f = if is_reported_rule f.rule c then Some (zone_finding f) else None
@@ -52,12 +43,12 @@ reported_finding c f = if is_reported_rule f.rule c then Some (zone_finding f) e
 abbrev pub is_same_directive : DirectiveLine → DirectiveLine → Bool
 is_same_directive a b = a.file == b.file && a.line == b.line
 
-abbrev pub directive_of_rule : Rule → Option DirectiveLine → Option DirectiveLine
-directive_of_rule Duplicate directive = directive
-directive_of_rule _ directive = None
+abbrev pub directive_of_code : Code → Option DirectiveLine → Option DirectiveLine
+directive_of_code Duplicate directive = directive
+directive_of_code _ directive = None
 
 abbrev pub repeated_directive : BrokenRule → Option DirectiveLine
-repeated_directive b = directive_of_rule b.finding.rule b.directive
+repeated_directive b = directive_of_code b.finding.rule.code b.directive
 
 abbrev pub is_repeat : (seen : List DirectiveLine) → Option DirectiveLine → Bool
 is_repeat seen None = false

@@ -1,11 +1,12 @@
 //! Collects findings until all are known.
-ghost use Rattle.std.specs.Prelude.{◌≡◌, ◌++◌, ◌∷◌, ◌*◌, ◌<◌, [], List, length, IfOk, OnErr, OnOk, option_to_list};
-ghost use Rattle.zone_check.specs.Collected.{HasCollected, IsFew, IsKeptFinding, SendsShownOf, ShowAlike, kept_finding, kept_if, number_after};
+ghost use Rattle.std.specs.Prelude.{◌≡◌, ◌++◌, ◌∷◌, ◌*◌, ◌<◌, [], List, Some, length, IfOk, OnErr, OnOk};
+ghost use Rattle.std.specs.Option.{IfSome};
+ghost use Rattle.zone_check.specs.Collected.{AreShownAlike, AreShownOf, HasCollected, HasKept, HasNotKept, HasOneMore, IsFew, IsJudged, IsLastIfAny, ShowAlike, ShownOf, kept_finding, kept_if, number_after};
+ghost use Rattle.zone_check.specs.FindingOrder.{AreAmong, ShownFindings, findings_of, first_findings, with_text};
 ghost use Rattle.zone_check.specs.declared.collector.FoundFinding.{FoundFinding};
 
-use crate::finding_order::{KeptFinding, sort_by_weight};
+use crate::finding_order::{Kept, KeptFinding, outweighs, sort_by_position, sort_by_weight};
 use crate::shown::{decide, severity_of};
-use crate::sink::{FindingSink, send_shown};
 use dns_lexer::position::Position;
 use finding_codes::code::{Code, Severity};
 use finding_codes::policy::Policy;
@@ -29,18 +30,20 @@ pub struct FoundFinding {
 /// Findings that are counted until all are known. Those that can't be shown are not kept: at most twice
 /// the number that is shown are.
 #[derive(Drop)]
-pub struct FindingCollector<'p> {
+pub struct FindingCollector<'p, T> {
     /// Which findings are left out, and which are errors.
     pub policy: Policy<'p>,
     pub tally: Tally,
     /// Number of findings that were counted, up to the greatest number.
     pub number: usize,
     /// Those of them that may be shown.
-    pub kept: Vec<KeptFinding>,
+    pub kept: Vec<Kept<T>>,
+    /// The last by weight of those that were kept when others were dropped.
+    pub last: Option<KeptFinding>,
 }
 
 /// Returns a finding that is kept, with its severity and the number of those before it.
-fn kept_finding(index: usize, finding: FoundFinding, severity: Severity) -> KeptFinding
+pub fn kept_finding(index: usize, finding: FoundFinding, severity: Severity) -> KeptFinding
     ensures { result ≡ kept_finding index finding severity }
 {
     KeptFinding {
@@ -49,6 +52,16 @@ fn kept_finding(index: usize, finding: FoundFinding, severity: Severity) -> Kept
         index,
         code: finding.code,
         severity,
+    }
+}
+
+/// Returns a finding with its severity, or nothing if it is left out.
+fn kept_if(index: usize, finding: FoundFinding, severity: Option<Severity>) -> Option<KeptFinding>
+    ensures { result ≡ kept_if index finding severity }
+{
+    match severity {
+        Some(severity) => Some(kept_finding(index, finding, severity)),
+        None => None,
     }
 }
 
@@ -62,11 +75,35 @@ fn number_after(number: usize, severity: Option<Severity>) -> usize
     }
 }
 
+/// Returns a finding, unless it can't be shown since it is not before the last one.
+fn unless_last(judged: Option<KeptFinding>, last: Option<KeptFinding>) -> Option<KeptFinding>
+    ensures same { IfSome result (λ k. judged ≡ Some k) }
+    ensures alike { AreShownAlike last judged result }
+{
+    match (judged, last) {
+        (Some(one), Some(last)) => {
+            if outweighs(&one, &last) {
+                Some(one)
+            } else {
+                None
+            }
+        }
+        _ => judged,
+    }
+}
+
 /// Drops the findings that are not shown, once there are twice the number that is. Fails without
 /// memory; the findings are then unchanged.
-fn drop_hidden(kept: &mut Vec<KeptFinding>, most: usize) -> Result<(), AllocError>
-    ensures alike { ShowAlike most kept.old.items kept.new.items }
+fn drop_hidden<T: Drop>(
+    kept: &mut Vec<Kept<T>>,
+    last: &mut Option<KeptFinding>,
+    most: usize,
+) -> Result<(), AllocError>
+    ensures alike { ShowAlike most (findings_of kept.old.items) (findings_of kept.new.items) }
+    ensures last { IsLastIfAny most (findings_of kept.old.items) last.old
+        → IsLastIfAny most (findings_of kept.new.items) last.new }
     ensures few { OnOk result (0 < most → length kept.new.items < 2 * most) }
+    ensures among { AreAmong kept.new.items kept.old.items }
     ensures unchanged { OnErr result (kept.new.items ≡ kept.old.items) }
 {
     if most == 0 {
@@ -77,38 +114,38 @@ fn drop_hidden(kept: &mut Vec<KeptFinding>, most: usize) -> Result<(), AllocErro
     }
     sort_by_weight(kept)?;
     kept.truncate(most);
+    *last = Some(kept[most - 1].finding);
     Ok(())
 }
 
-/// Appends a finding with a severity, or nothing if it is left out, and returns it. Fails without
-/// memory; the findings are then unchanged.
-fn keep(
-    index: usize,
-    finding: FoundFinding,
-    severity: Option<Severity>,
-    kept: &mut Vec<KeptFinding>,
-) -> Result<Option<KeptFinding>, AllocError>
-    ensures result { IfOk result (λ r. r ≡ kept_if index finding severity) }
-    ensures kept { OnOk result (kept.new.items
-        ≡ kept.old.items ++ option_to_list (kept_if index finding severity)) }
-    ensures unchanged { OnErr result (kept.new.items ≡ kept.old.items) }
+/// Keeps the first of some findings, up to a number, or all if that is 0.
+fn keep_first<T: Drop>(findings: &mut Vec<Kept<T>>, most: usize)
+    ensures { findings.new.items ≡ first_findings most findings.old.items }
 {
-    match severity {
-        Some(severity) => {
-            let one = kept_finding(index, finding, severity);
-            kept.push(one)?;
-            Ok(Some(one))
-        }
-        None => Ok(None),
+    if most > 0 {
+        findings.truncate(most);
     }
 }
 
-impl<'p> FindingCollector<'p> {
+/// Chooses the first findings by weight, up to a number, or all if that is 0, and sorts them by their
+/// places. Fails without memory.
+fn choose_shown<T: Drop>(findings: &mut Vec<Kept<T>>, most: usize) -> Result<(), AllocError>
+    ensures shown { OnOk result (ShownFindings most (findings_of findings.old.items)
+        (findings_of findings.new.items)) }
+    ensures among { AreAmong findings.new.items findings.old.items }
+{
+    sort_by_weight(findings)?;
+    keep_first(findings, most);
+    sort_by_position(findings)
+}
+
+impl<'p, T: Drop> FindingCollector<'p, T> {
     /// Returns a collector before the first finding. It shows at most `most` findings, or all if
     /// that is 0.
-    pub fn new(alloc: Global, policy: Policy<'p>, most: usize) -> FindingCollector<'p>
+    pub fn new(alloc: Global, policy: Policy<'p>, most: usize) -> FindingCollector<'p, T>
         ensures policy { result.policy ≡ policy.entry }
         ensures most { result.tally.most ≡ most }
+        ensures empty { result.kept.items ≡ [] }
         ensures none { HasCollected [] result }
     {
         FindingCollector {
@@ -116,20 +153,17 @@ impl<'p> FindingCollector<'p> {
             tally: Tally::new(most),
             number: 0,
             kept: Vec::new(alloc),
+            last: None,
         }
     }
 
-    /// Adds a finding, and returns what is kept of it: nothing if it is left out. Fails without
-    /// memory; nothing is then added.
-    pub fn add(&mut self, finding: FoundFinding) -> Result<Option<KeptFinding>, AllocError>
+    /// Counts a finding, and returns it if it may be shown.
+    pub fn judge(&mut self, finding: FoundFinding) -> Option<KeptFinding>
         ensures policy { self.new.policy ≡ self.old.policy }
         ensures most { self.new.tally.most ≡ self.old.tally.most }
-        ensures kept { IfOk result (IsKeptFinding self.old.policy self.old.number finding) }
-        ensures few { OnOk result (IsFew self.old.tally.most self.new.kept.items) }
-        ensures added { OnOk result ((found : List FoundFinding) → HasCollected found self.old
-            → HasCollected (found ++ finding ∷ []) self.new) }
-        ensures unchanged { OnErr result ((found : List FoundFinding) → HasCollected found self.old
-            → HasCollected found self.new) }
+        ensures kept { self.new.kept.items ≡ self.old.kept.items }
+        ensures judged { IsJudged self.old.policy self.old.number finding result }
+        ensures added { HasOneMore finding result self.old self.new }
     {
         let severity = severity_of(
             &self.policy,
@@ -137,39 +171,69 @@ impl<'p> FindingCollector<'p> {
             finding.is_refused,
             finding.is_excepted,
         );
-        drop_hidden(&mut self.kept, self.tally.most)?;
-        let kept = keep(self.number, finding, severity, &mut self.kept)?;
+        let judged = kept_if(self.number, finding, severity);
         self.number = number_after(self.number, severity);
         decide(&mut self.tally, severity);
-        Ok(kept)
+        unless_last(judged, self.last)
     }
 
-    /// Sends a sink the findings that are shown, in the order of their places. Fails without memory.
-    pub fn finish<S: FindingSink>(self, sink: &mut S) -> Result<(), AllocError>
-        ensures { OnOk result ((found : List FoundFinding) → HasCollected found self.entry
-            → SendsShownOf self.entry.policy self.entry.tally.most found
-            (S.received sink.old) (S.received sink.new)) }
+    /// Keeps a finding that [`FindingCollector::judge`] returned last, with its text. Fails without
+    /// memory; it is then not kept.
+    pub fn keep(&mut self, finding: KeptFinding, text: T) -> Result<(), AllocError>
+        ensures policy { self.new.policy ≡ self.old.policy }
+        ensures most { self.new.tally.most ≡ self.old.tally.most }
+        ensures few { OnOk result (IsFew self.old.tally.most self.new.kept.items) }
+        ensures among { AreAmong self.new.kept.items
+            (self.old.kept.items ++ with_text finding text ∷ []) }
+        ensures kept { OnOk result (HasKept finding self.old self.new) }
+        ensures unchanged { OnErr result (HasNotKept finding self.old self.new) }
+    {
+        drop_hidden(&mut self.kept, &mut self.last, self.tally.most)?;
+        self.kept.push(Kept { finding, text })?;
+        Ok(())
+    }
+
+    /// Counts a finding, and keeps it with its text if it may be shown. Fails without memory; it is then
+    /// counted, but not kept.
+    pub fn add(&mut self, finding: FoundFinding, text: T) -> Result<(), AllocError>
+        ensures policy { self.new.policy ≡ self.old.policy }
+        ensures most { self.new.tally.most ≡ self.old.tally.most }
+        ensures few { OnOk result (IsFew self.old.tally.most self.old.kept.items
+            → IsFew self.old.tally.most self.new.kept.items) }
+        ensures added { OnOk result ((found : List FoundFinding) → HasCollected found self.old
+            → HasCollected (found ++ finding ∷ []) self.new) }
+    {
+        match self.judge(finding) {
+            Some(judged) => self.keep(judged, text),
+            None => Ok(()),
+        }
+    }
+
+    /// Returns the findings that are shown, in the order of their places. Fails without memory.
+    pub fn finish(self) -> Result<Vec<Kept<T>>, AllocError>
+        ensures shown { IfOk result (λ shown. AreShownOf self.entry shown.items) }
+        ensures among { IfOk result (λ shown. AreAmong shown.items self.entry.kept.items) }
     {
         let mut kept = self.kept;
-        send_shown(&mut kept, self.tally.most, sink)
+        choose_shown(&mut kept, self.tally.most)?;
+        Ok(kept)
     }
 }
 
-/// Sends a sink those of some findings that are shown, in the order of their places, or all if
-/// `most` is 0. Fails without memory.
-pub fn show_findings<S: FindingSink>(
+/// Returns those of some findings that are shown, in the order of their places, or all if `most` is 0.
+/// They have no texts. Fails without memory.
+pub fn show_findings(
     alloc: Global,
     policy: Policy<'_>,
     most: usize,
     findings: &[FoundFinding],
-    sink: &mut S,
-) -> Result<(), AllocError>
-    ensures { OnOk result (SendsShownOf policy.entry most findings.now
-        (S.received sink.old) (S.received sink.new)) }
+) -> Result<Vec<Kept<()>>, AllocError>
+    ensures { IfOk result (λ shown. ShownOf policy.entry most findings.now
+        (findings_of shown.items)) }
 {
     let mut collector = FindingCollector::new(alloc, policy, most);
     for finding in findings {
-        collector.add(*finding)?;
+        collector.add(*finding, ())?;
     }
-    collector.finish(sink)
+    collector.finish()
 }

@@ -5,7 +5,7 @@ ghost use Rattle.zone_check.specs.FindingSpans.{finding_at, finding_of_entry, fi
 
 use dns_lexer::entry_tokens::EntryToken;
 use finding_codes::code::Code;
-use record_rules::RecordRule;
+use finding_codes::rule::Rule;
 
 /// What the message of a finding is about.
 #[derive(Clone, Copy)]
@@ -21,9 +21,9 @@ pub enum About {
     /// The entry as a whole.
     Entry,
     /// A rule that a record alone breaks, and the token at the span.
-    RuleAtToken(RecordRule),
+    RuleAtToken(Rule),
     /// A rule that a record alone breaks, and the record as a whole.
-    RuleOfRecord(RecordRule),
+    RuleOfRecord(Rule),
 }
 
 /// A finding about an entry.

@@ -2,14 +2,14 @@
 ghost use Rattle.std.specs.Prelude.{◌≡◌, OnErr, OnOk};
 ghost use Rattle.std.specs.List.Sorted.{IsPermutation, IsSorted, IsStable};
 ghost use Rattle.std.specs.Ordering.{is_lt};
-ghost use Rattle.zone_check.specs.FindingOrder.{place_order, position_order, severity_rank, weight_order};
+ghost use Rattle.zone_check.specs.FindingOrder.{kept_position, kept_weight, place_order, position_order, severity_rank, weight_order};
 
 use dns_lexer::position::Position;
 use finding_codes::code::{Code, Severity};
 use std::alloc::{AllocError, Allocator};
 use std::cmp::Ordering;
 
-/// A finding that is kept until all are known.
+/// A finding that was counted, and may be shown.
 #[derive(Clone, Copy)]
 pub struct KeptFinding {
     /// Number of files that were opened before its file.
@@ -20,6 +20,13 @@ pub struct KeptFinding {
     pub index: usize,
     pub code: Code,
     pub severity: Severity,
+}
+
+/// A finding that is kept until all are known, with its text.
+#[derive(Drop)]
+pub struct Kept<T> {
+    pub finding: KeptFinding,
+    pub text: T,
 }
 
 /// Returns the rank of a severity: errors come first.
@@ -67,23 +74,27 @@ pub fn outweighs(left: &KeptFinding, right: &KeptFinding) -> bool
 
 /// Sorts findings by severity, errors first, and those of one severity by their places. Fails
 /// without memory; the findings are then unchanged.
-pub fn sort_by_weight<A: Allocator>(findings: &mut Vec<KeptFinding, A>) -> Result<(), AllocError>
+pub fn sort_by_weight<T: Drop, A: Allocator>(
+    findings: &mut Vec<Kept<T>, A>,
+) -> Result<(), AllocError>
     ensures permutation { IsPermutation findings.old.items findings.new.items }
-    ensures stable { IsStable weight_order findings.old.items findings.new.items }
-    ensures sorted { OnOk result (IsSorted weight_order findings.new.items) }
+    ensures stable { IsStable kept_weight findings.old.items findings.new.items }
+    ensures sorted { OnOk result (IsSorted kept_weight findings.new.items) }
     ensures unchanged { OnErr result (findings.new.items ≡ findings.old.items) }
 {
-    findings.sort_by(|left, right| compare_weights(left, right))
+    findings.sort_by(|left, right| compare_weights(&left.finding, &right.finding))
 }
 
 /// Sorts findings by their places: by file as read, then by line, and then by column. Findings at
 /// one place are in the order in which they were found. Fails without memory; the findings are then
 /// unchanged.
-pub fn sort_by_position<A: Allocator>(findings: &mut Vec<KeptFinding, A>) -> Result<(), AllocError>
+pub fn sort_by_position<T: Drop, A: Allocator>(
+    findings: &mut Vec<Kept<T>, A>,
+) -> Result<(), AllocError>
     ensures permutation { IsPermutation findings.old.items findings.new.items }
-    ensures stable { IsStable position_order findings.old.items findings.new.items }
-    ensures sorted { OnOk result (IsSorted position_order findings.new.items) }
+    ensures stable { IsStable kept_position findings.old.items findings.new.items }
+    ensures sorted { OnOk result (IsSorted kept_position findings.new.items) }
     ensures unchanged { OnErr result (findings.new.items ≡ findings.old.items) }
 {
-    findings.sort_by(|left, right| compare_positions(left, right))
+    findings.sort_by(|left, right| compare_positions(&left.finding, &right.finding))
 }

@@ -22,6 +22,5 @@ pub mod rejection_findings;
 pub mod rule_findings;
 pub mod scan;
 pub mod shown;
-pub mod sink;
 pub mod value_findings;
 pub mod zone_findings;

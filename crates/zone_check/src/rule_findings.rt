@@ -2,16 +2,18 @@
 ghost use Rattle.std.specs.Prelude.{◌≡◌, ◌++◌, OnOk, drop, map};
 ghost use Rattle.dns_lexer.specs.EntryTokens.{token_seen};
 ghost use Rattle.zone_check.specs.NameFindings.{own_owner};
-ghost use Rattle.zone_check.specs.RuleFindings.{AreRuleFindings, IsWrittenAs, field_of_rule, finding_at_rule, has_quoted, is_omitted_rule, is_of_owner, rule_finding, rule_findings, target_index, token_of_field, token_with_index};
+ghost use Rattle.zone_check.specs.RuleFindings.{AreRuleFindings, IsWrittenAs, index_of_part, finding_at_rule, has_quoted, is_omitted_rule, is_owner, rule_finding, rule_findings, target_index, token_of_field, token_with_index};
 
-use crate::codes::code_of_record_rule;
 use crate::entry_words::data_tokens;
 use crate::finding::{About, EntryFinding, finding_of_entry, finding_of_token};
 use crate::name_findings::is_generic_token;
 use dns_lexer::entry_tokens::EntryToken;
+use finding_codes::code::Code;
+use finding_codes::rule::Rule;
+use finding_codes::table::Part;
 use rdata_fields::RecordRef;
 use rdata_values::RecordType;
-use record_rules::{RecordRule, Written, broken_rules};
+use record_rules::{Written, broken_rules};
 use std::alloc::AllocError;
 
 /// Returns whether a token is a quoted string.
@@ -63,47 +65,40 @@ fn target_index(rtype: RecordType) -> usize
     }
 }
 
-/// Returns the index of the field of a record's RDATA that breaks a rule, if it is one. `count` is
-/// the number of its tokens.
-fn field_of_rule(rule: RecordRule, rtype: RecordType, count: usize) -> Option<usize>
-    ensures { result ≡ field_of_rule rule rtype count }
+/// Returns the index of a part among the fields of a record's RDATA, if it is one of them. `count`
+/// is the number of its tokens.
+fn index_of_part(part: Part, rtype: RecordType, count: usize) -> Option<usize>
+    ensures { result ≡ index_of_part part rtype count }
 {
-    match rule {
-        RecordRule::NaptrRegexp => Some(4),
-        RecordRule::NaptrBoth => Some(5),
-        RecordRule::CaaUnknown | RecordRule::CaaCritical | RecordRule::CaaCapitals => Some(1),
-        RecordRule::SoaMailAtSign | RecordRule::SoaMailOneLabel => Some(1),
-        RecordRule::SoaRetry => Some(4),
-        RecordRule::SoaExpire => Some(5),
-        RecordRule::SoaMinimum => Some(6),
-        RecordRule::TargetAddress => Some(target_index(rtype)),
-        RecordRule::TxtWords => Some(0),
-        RecordRule::CommentInData => Some(count.saturating_sub(1)),
-        RecordRule::SpfType | RecordRule::ReverseName | RecordRule::WildcardInside => None,
+    match part {
+        Part::Field(index) => Some(index as usize),
+        Part::Target => Some(target_index(rtype)),
+        Part::Last => Some(count.saturating_sub(1)),
+        Part::Owner | Part::Whole => None,
     }
 }
 
-/// Returns whether a rule is about the owner.
-fn is_of_owner(rule: RecordRule) -> bool
-    ensures { result ≡ is_of_owner rule }
+/// Returns whether a part is the owner.
+fn is_owner(part: Part) -> bool
+    ensures { result ≡ is_owner part }
 {
-    matches!(rule, RecordRule::ReverseName | RecordRule::WildcardInside)
+    matches!(part, Part::Owner)
 }
 
 /// Returns whether a rule is not reported: one label is a whole mail name only if an origin is
 /// known.
-fn is_omitted_rule(rule: RecordRule, is_below_root: bool) -> bool
+fn is_omitted_rule(rule: Rule, is_below_root: bool) -> bool
     ensures { result ≡ is_omitted_rule rule is_below_root }
 {
-    is_below_root && matches!(rule, RecordRule::SoaMailOneLabel)
+    is_below_root && matches!(rule.code, Code::SoaMail) && rule.way == 1
 }
 
 /// Returns the finding about a rule that the owner of a record breaks, at its token if it has one.
-fn finding_at_owner(rule: RecordRule, begins_blank: bool, tokens: &[EntryToken<'_>]) -> EntryFinding
+fn finding_at_owner(rule: Rule, begins_blank: bool, tokens: &[EntryToken<'_>]) -> EntryFinding
     ensures { result ≡ finding_at_rule rule (map token_seen tokens.now)
         (own_owner begins_blank (map token_seen tokens.now)) }
 {
-    let code = code_of_record_rule(rule);
+    let code = rule.code;
     if begins_blank {
         return finding_of_entry(code, About::RuleOfRecord(rule), tokens);
     }
@@ -116,7 +111,7 @@ fn finding_at_owner(rule: RecordRule, begins_blank: bool, tokens: &[EntryToken<'
 /// Returns the finding about a rule that a field of RDATA with an index breaks, at its token if it
 /// has one.
 fn finding_at_index(
-    rule: RecordRule,
+    rule: Rule,
     index: usize,
     tokens: &[EntryToken<'_>],
     words: &[EntryToken<'_>],
@@ -124,7 +119,7 @@ fn finding_at_index(
     ensures { result ≡ finding_at_rule rule (map token_seen tokens.now)
         (token_with_index (map token_seen words.now) index) }
 {
-    let code = code_of_record_rule(rule);
+    let code = rule.code;
     if words.len() <= index {
         return finding_of_entry(code, About::RuleOfRecord(rule), tokens);
     }
@@ -136,7 +131,7 @@ fn finding_at_index(
 
 /// Returns the finding about a rule that a field of RDATA breaks, or the record as a whole.
 fn finding_at_field(
-    rule: RecordRule,
+    rule: Rule,
     field: Option<usize>,
     tokens: &[EntryToken<'_>],
     words: &[EntryToken<'_>],
@@ -146,13 +141,13 @@ fn finding_at_field(
 {
     match field {
         Some(index) => finding_at_index(rule, index, tokens, words),
-        None => finding_of_entry(code_of_record_rule(rule), About::RuleOfRecord(rule), tokens),
+        None => finding_of_entry(rule.code, About::RuleOfRecord(rule), tokens),
     }
 }
 
 /// Returns the finding about a rule that a record breaks. `words` are the tokens of its RDATA.
 fn rule_finding(
-    rule: RecordRule,
+    rule: Rule,
     rtype: RecordType,
     begins_blank: bool,
     tokens: &[EntryToken<'_>],
@@ -161,15 +156,16 @@ fn rule_finding(
     ensures { result ≡ rule_finding rule rtype begins_blank (map token_seen tokens.now)
         (map token_seen words.now) }
 {
-    if is_of_owner(rule) {
+    let part = rule.part();
+    if is_owner(part) {
         return finding_at_owner(rule, begins_blank, tokens);
     }
-    finding_at_field(rule, field_of_rule(rule, rtype, words.len()), tokens, words)
+    finding_at_field(rule, index_of_part(part, rtype, words.len()), tokens, words)
 }
 
 /// Appends the findings about the rules that a record breaks. Fails without memory.
 fn append_rules(
-    rules: &[RecordRule],
+    rules: &[Rule],
     rtype: RecordType,
     context: RuleContext,
     tokens: &[EntryToken<'_>],

@@ -1,12 +1,13 @@
 //! Finds what is reported about the records of a zone.
 ghost use Rattle.std.specs.Prelude.{◌≡◌, ◌++◌, OnOk, option_to_list};
 ghost use Rattle.std.specs.List.{list_any};
-ghost use Rattle.zone_check.specs.ZoneFindings.{FindingsAfter, directives_after, is_at_target, is_missing_record, is_repeat, is_reported_rule, is_same_directive, reported_finding, repeated_directive, zone_finding};
+ghost use Rattle.zone_check.specs.ZoneFindings.{FindingsAfter, directives_after, is_at_target, is_repeat, is_reported_rule, is_same_directive, reported_finding, repeated_directive, zone_finding};
 
-use crate::codes::code_of_rule;
 use finding_codes::code::Code;
+use finding_codes::rule::Rule;
+use finding_codes::table::Part;
 use std::alloc::{AllocError, Global};
-use zone_rules::{Finding, Rule};
+use zone_rules::Finding;
 
 /// What was read of a zone.
 #[derive(Clone, Copy)]
@@ -36,7 +37,6 @@ pub struct BrokenRule {
 /// A finding about the records of a zone.
 #[derive(Clone, Copy)]
 pub struct ZoneFinding {
-    pub code: Code,
     pub rule: Rule,
     /// Index of the record, or `None` if it is about the zone.
     pub record: Option<usize>,
@@ -44,38 +44,11 @@ pub struct ZoneFinding {
     pub is_at_target: bool,
 }
 
-/// Returns whether a rule is broken because a record is missing.
-fn is_missing_record(rule: Rule) -> bool
-    ensures { result ≡ is_missing_record rule }
+/// Returns whether findings with a code are at the target in the RDATA.
+pub fn is_at_target(code: Code) -> bool
+    ensures { result ≡ is_at_target code }
 {
-    matches!(
-        rule,
-        Rule::NoSoa
-            | Rule::NoNs
-            | Rule::NsAddress
-            | Rule::MissingGlue
-            | Rule::HostMissing
-            | Rule::CdsWithoutKey
-            | Rule::DsWithoutNs
-            | Rule::CnameTargetMissing
-            | Rule::WeakDigest
-            | Rule::SingleNs
-    )
-}
-
-/// Returns whether findings of a rule are at the target in the RDATA.
-pub fn is_at_target(rule: Rule) -> bool
-    ensures { result ≡ is_at_target rule }
-{
-    matches!(
-        rule,
-        Rule::NsAddress
-            | Rule::MissingGlue
-            | Rule::HostIsAlias
-            | Rule::HostBelowDname
-            | Rule::HostMissing
-            | Rule::CnameTargetMissing
-    )
+    matches!(code.row().part, Part::Target)
 }
 
 /// Returns whether findings of a rule are reported. Without a zone only those of RRsets are. Missing
@@ -83,9 +56,9 @@ pub fn is_at_target(rule: Rule) -> bool
 fn is_reported_rule(rule: Rule, context: ZoneContext) -> bool
     ensures { result ≡ is_reported_rule rule context }
 {
-    match rule {
-        Rule::Duplicate | Rule::TtlDiffers => true,
-        _ => context.is_zone && !(context.has_gap && is_missing_record(rule)),
+    match rule.code {
+        Code::Duplicate | Code::TtlDiffers => true,
+        code => context.is_zone && !(context.has_gap && code.is_of_absence()),
     }
 }
 
@@ -94,10 +67,9 @@ fn zone_finding(finding: Finding) -> ZoneFinding
     ensures { result ≡ zone_finding finding }
 {
     ZoneFinding {
-        code: code_of_rule(finding.rule),
         rule: finding.rule,
         record: finding.record,
-        is_at_target: is_at_target(finding.rule),
+        is_at_target: is_at_target(finding.rule.code),
     }
 }
 
@@ -123,8 +95,8 @@ fn is_same_directive(one: DirectiveLine, other: DirectiveLine) -> bool
 fn repeated_directive(broken: &BrokenRule) -> Option<DirectiveLine>
     ensures { result ≡ repeated_directive broken.now }
 {
-    match broken.finding.rule {
-        Rule::Duplicate => broken.directive,
+    match broken.finding.rule.code {
+        Code::Duplicate => broken.directive,
         _ => None,
     }
 }
