@@ -30,12 +30,12 @@ use zonetext_files::open_file::first_place;
 use zonetext_files::shown::quoted;
 use zonetext_files::stop::RunError;
 use zonetext_files::zone_files::{Entry, IncludeError, Visit};
-use zonetext_findings::cursor::Cursor;
+use zonetext_findings::entry_cache::EntryCache;
 use zonetext_findings::exceptions::{may_except, stated_of};
 use zonetext_findings::generate_findings::refusal_text;
 use zonetext_findings::locations::{
-    beginning, begins_blank, cursor_of, line_spot, located, long_at, next_position, number_of,
-    position_at, target_position, token_at, tokens_of,
+    beginning, begins_blank, line_spot, long_at, number_of, position_at, target_position, token_at,
+    tokens_of,
 };
 use zonetext_findings::octet_texts::{is_of_file, octet_text};
 use zonetext_findings::reporter::{FindingText, Reporter};
@@ -378,16 +378,16 @@ impl<'a> Checker<'a> {
             Ok(ParsedEntry::Generate { .. }) => Some(position_at(entry, 0)),
             _ => None,
         };
-        let mut cursor = cursor_of(entry);
+        let mut cache = EntryCache::new(self.alloc, entry);
         for (code, part) in &stated.codes {
-            let position = next_position(entry, &mut cursor, part.at);
+            let position = cache.position(entry, part.at);
             self.findings
                 .reporter
                 .exceptions
                 .add(*code, entry.number, position, record)?;
         }
         for slip in &stated.slips {
-            self.findings.report_slip(entry, &mut cursor, *slip)?;
+            self.findings.report_slip(entry, &mut cache, *slip)?;
         }
         Ok(())
     }
@@ -494,31 +494,32 @@ impl<'a> Checker<'a> {
     }
 
     /// Reports a finding about the octets of an entry.
-    fn report_octets(
+    fn report_octets<'e>(
         &mut self,
-        entry: &Entry<'_>,
-        cursor: &mut Cursor<'_>,
+        entry: &Entry<'e>,
+        cache: &mut EntryCache<'e>,
         finding: &EntryFinding,
     ) -> Result<(), RunError> {
         let (code, start) = (finding.code, finding.start);
-        let position = next_position(entry, cursor, start);
+        let position = cache.position(entry, start);
         let is_fault = code.is_text_fault();
         let counted = self
             .findings
             .reporter
-            .count(entry.number, position, code, is_fault)?;
-        let Some(severity) = counted else {
+            .count(entry.number, position, code, is_fault);
+        let Some(counted) = counted else {
             return Ok(());
         };
-        let spot = located(entry, start, position, finding.width);
-        let (spot, text) = octet_text(self.alloc, entry, spot, finding)?;
+        let spot = cache.located(entry, start, position, finding.width);
+        let (spot, text) = octet_text(self.alloc, entry, cache, spot, finding)?;
         if is_of_file(code) {
             return self
                 .findings
                 .reporter
-                .show(severity, spot, code, text.finding_text());
+                .show(counted, spot, code, text.finding_text());
         }
-        self.findings.show_entry(entry, severity, spot, code, &text)
+        self.findings
+            .show_entry(entry, cache, counted, spot, code, &text)
     }
 
     /// Reports those findings about an entry that are about its octets. Returns whether one is that
@@ -529,7 +530,7 @@ impl<'a> Checker<'a> {
         found: &[EntryFinding],
     ) -> Result<bool, RunError> {
         let mut is_end = false;
-        let mut cursor = cursor_of(entry);
+        let mut cache = EntryCache::new(self.alloc, entry);
         for finding in found {
             if !is_of_octets(finding) {
                 continue;
@@ -538,7 +539,7 @@ impl<'a> Checker<'a> {
             if finding.code == Code::Crlf {
                 self.crlf_files.push(entry.number)?;
             }
-            self.report_octets(entry, &mut cursor, finding)?;
+            self.report_octets(entry, &mut cache, finding)?;
         }
         Ok(is_end)
     }
@@ -549,33 +550,33 @@ impl<'a> Checker<'a> {
         entry: &Entry<'_>,
         found: &[EntryFinding],
     ) -> Result<(), RunError> {
-        let mut cursor = cursor_of(entry);
+        let mut cache = EntryCache::new(self.alloc, entry);
         for finding in found {
             if !is_of_octets(finding) {
-                self.report_finding(entry, &mut cursor, finding)?;
+                self.report_finding(entry, &mut cache, finding)?;
             }
         }
         Ok(())
     }
 
     /// Reports a finding about an entry that is not about its octets.
-    fn report_finding(
+    fn report_finding<'e>(
         &mut self,
-        entry: &Entry<'_>,
-        cursor: &mut Cursor<'_>,
+        entry: &Entry<'e>,
+        cache: &mut EntryCache<'e>,
         finding: &EntryFinding,
     ) -> Result<(), RunError> {
         match entry.read {
-            Err(BlockRefusal::Text(fault)) => self
-                .findings
-                .report_fault(entry, cursor, finding, *fault),
+            Err(BlockRefusal::Text(fault)) => {
+                self.findings.report_fault(entry, cache, finding, *fault)
+            }
             Err(BlockRefusal::LongEntry) => self.report_long(entry),
             Err(BlockRefusal::Entry(error)) => self
                 .findings
-                .report_explained(entry, cursor, finding, error),
+                .report_explained(entry, cache, finding, error),
             Ok(_) => self
                 .findings
-                .report_found(entry, cursor, finding, self.limits.max_ttl),
+                .report_found(entry, cache, finding, self.limits.max_ttl),
         }
     }
 

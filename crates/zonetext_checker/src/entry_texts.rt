@@ -1,5 +1,4 @@
 //! The messages of findings about an entry.
-use crate::lone_rules::lone_text;
 use finding_codes::code::Code;
 use std::alloc::{AllocError, Global};
 use zone_check::finding::{About, EntryFinding};
@@ -37,9 +36,9 @@ pub fn entry_text(
 ) -> Result<Text, AllocError> {
     match finding.about {
         About::RuleAtToken(rule) => {
-            Text::worded(alloc, lone_text(rule), Some(word_at(entry, finding)))
+            Text::worded(alloc, rule.message(), Some(word_at(entry, finding)))
         }
-        About::RuleOfRecord(rule) => Text::worded(alloc, lone_text(rule), None),
+        About::RuleOfRecord(rule) => Text::worded(alloc, rule.message(), None),
         About::Token => Text::worded(alloc, finding.code.message(), Some(word_at(entry, finding))),
         _ if finding.code == Code::MaxTtl => max_ttl_text(alloc, entry, most),
         _ => Text::worded(alloc, finding.code.message(), None),

@@ -5,10 +5,11 @@ use crate::rule_texts::{CheckedZone, rule_text};
 use dns_lexer::pieces::Fault;
 use dns_lexer::position::Position;
 use dns_octets::AsOctets;
-use finding_codes::code::{Code, Severity};
+use finding_codes::code::Code;
 use rdata_fields::RecordError;
 use std::alloc::{AllocError, Global};
 use zone_check::finding::EntryFinding;
+use zone_check::finding_order::KeptFinding;
 use zone_check::zone_findings::ZoneFinding;
 use zone_reader::NameBuffer;
 use zone_rules::zone_records::OwnerBuffer;
@@ -17,12 +18,10 @@ use zonetext_files::file_lines::FileLines;
 use zonetext_files::open_file::first_place;
 use zonetext_files::stop::RunError;
 use zonetext_files::zone_files::Entry;
-use zonetext_findings::cursor::Cursor;
+use zonetext_findings::entry_cache::EntryCache;
 use zonetext_findings::exceptions::{Exception, Slip};
 use zonetext_findings::explain::{Refusal, explain};
-use zonetext_findings::locations::{
-    begins_blank, first_tokens, line_spot, located, next_position, tokens_of,
-};
+use zonetext_findings::locations::{begins_blank, first_tokens, line_spot, tokens_of};
 use zonetext_findings::octet_texts::fault_text;
 use zonetext_findings::reporter::{FindingLocation, FindingText, Reporter};
 use zonetext_findings::subjects::{Subject, Text};
@@ -119,19 +118,24 @@ impl<'a> Findings<'a> {
     }
 
     /// Shows a finding about an entry, with its owner and its type.
-    pub fn show_entry(
+    pub fn show_entry<'e>(
         &mut self,
-        entry: &Entry<'_>,
-        severity: Severity,
+        entry: &Entry<'e>,
+        cache: &mut EntryCache<'e>,
+        counted: KeptFinding,
         spot: FindingLocation<'_>,
         code: Code,
         text: &Text,
     ) -> Result<(), RunError> {
-        let subject = self.subject_of(entry)?;
+        if !cache.has_subject() {
+            cache.set_subject(self.subject_of(entry)?);
+        }
         let note = text.note.as_str();
-        let finding_text = subject.finding_text(text.message.as_str(), text.help.as_str());
+        let finding_text = cache
+            .subject()
+            .finding_text(text.message.as_str(), text.help.as_str());
         self.reporter.show(
-            severity,
+            counted,
             spot,
             code,
             FindingText {
@@ -142,38 +146,38 @@ impl<'a> Findings<'a> {
     }
 
     /// Reports a finding about an entry. `most` is the greatest TTL that is allowed.
-    pub fn report_found(
+    pub fn report_found<'e>(
         &mut self,
-        entry: &Entry<'_>,
-        cursor: &mut Cursor<'_>,
+        entry: &Entry<'e>,
+        cache: &mut EntryCache<'e>,
         finding: &EntryFinding,
         most: Option<u32>,
     ) -> Result<(), RunError> {
         let (code, start) = (finding.code, finding.start);
-        let position = next_position(entry, cursor, start);
-        let Some(severity) = self.reporter.count(entry.number, position, code, false)? else {
+        let position = cache.position(entry, start);
+        let Some(counted) = self.reporter.count(entry.number, position, code, false) else {
             return Ok(());
         };
-        let spot = located(entry, start, position, finding.width);
+        let spot = cache.located(entry, start, position, finding.width);
         let text = entry_text(self.alloc, entry, finding, most)?;
-        self.show_entry(entry, severity, spot, code, &text)
+        self.show_entry(entry, cache, counted, spot, code, &text)
     }
 
     /// Reports a syntax error of the text.
-    pub fn report_fault(
+    pub fn report_fault<'e>(
         &mut self,
-        entry: &Entry<'_>,
-        cursor: &mut Cursor<'_>,
+        entry: &Entry<'e>,
+        cache: &mut EntryCache<'e>,
         finding: &EntryFinding,
         fault: Fault,
     ) -> Result<(), RunError> {
         let code = finding.code;
-        let position = next_position(entry, cursor, finding.start);
-        let Some(severity) = self.reporter.count(entry.number, position, code, true)? else {
+        let position = cache.position(entry, finding.start);
+        let Some(counted) = self.reporter.count(entry.number, position, code, true) else {
             return Ok(());
         };
         let (spot, text) = fault_text(self.alloc, entry, fault)?;
-        self.show_entry(entry, severity, spot, code, &text)
+        self.show_entry(entry, cache, counted, spot, code, &text)
     }
 
     /// Reports why a directive is rejected.
@@ -185,24 +189,27 @@ impl<'a> Findings<'a> {
     ) -> Result<(), RunError> {
         match self
             .reporter
-            .count(spot.number, spot.position, Code::Directive, true)?
+            .count(spot.number, spot.position, Code::Directive, true)
         {
-            Some(severity) => self.show_entry(entry, severity, spot, Code::Directive, text),
+            Some(counted) => {
+                let mut cache = EntryCache::new(self.alloc, entry);
+                self.show_entry(entry, &mut cache, counted, spot, Code::Directive, text)
+            }
             None => Ok(()),
         }
     }
 
     /// Reports a rejected entry with what was probably meant.
-    pub fn report_explained(
+    pub fn report_explained<'e>(
         &mut self,
-        entry: &Entry<'_>,
-        cursor: &mut Cursor<'_>,
+        entry: &Entry<'e>,
+        cache: &mut EntryCache<'e>,
         finding: &EntryFinding,
         error: &RecordError,
     ) -> Result<(), RunError> {
         let code = finding.code;
-        let position = next_position(entry, cursor, finding.start);
-        let Some(severity) = self.reporter.count(entry.number, position, code, true)? else {
+        let position = cache.position(entry, finding.start);
+        let Some(counted) = self.reporter.count(entry.number, position, code, true) else {
             return Ok(());
         };
         let tokens = tokens_of(self.alloc, entry)?;
@@ -214,18 +221,18 @@ impl<'a> Findings<'a> {
         };
         let found = explain(self.alloc, entry, refusal)?;
         if found.is_record {
-            return self.show_entry(entry, severity, found.spot, found.code, &found.text);
+            return self.show_entry(entry, cache, counted, found.spot, found.code, &found.text);
         }
         let finding_text = found.text.finding_text();
         self.reporter
-            .show(severity, found.spot, found.code, finding_text)
+            .show(counted, found.spot, found.code, finding_text)
     }
 
     /// Reports a part of an entry's comment that is not as exceptions are written.
-    pub fn report_slip(
+    pub fn report_slip<'e>(
         &mut self,
-        entry: &Entry<'_>,
-        cursor: &mut Cursor<'_>,
+        entry: &Entry<'e>,
+        cache: &mut EntryCache<'e>,
         slip: Slip<'_>,
     ) -> Result<(), RunError> {
         let (part, message) = match slip {
@@ -233,13 +240,13 @@ impl<'a> Findings<'a> {
             Slip::Code(part) => (part, "unknown code in an exception"),
         };
         let (number, code) = (entry.number, Code::Exception);
-        let position = next_position(entry, cursor, part.at);
-        let Some(severity) = self.reporter.count(number, position, code, false)? else {
+        let position = cache.position(entry, part.at);
+        let Some(counted) = self.reporter.count(number, position, code, false) else {
             return Ok(());
         };
-        let spot = located(entry, part.at, position, part.octets.len());
+        let spot = cache.located(entry, part.at, position, part.octets.len());
         let text = Text::worded(self.alloc, message, Some(part.octets))?;
-        self.show_entry(entry, severity, spot, code, &text)
+        self.show_entry(entry, cache, counted, spot, code, &text)
     }
 
     /// Reports an exception that excepts no finding. `file` is the path of its file.
@@ -248,8 +255,8 @@ impl<'a> Findings<'a> {
         let (number, position) = (exception.number, exception.position);
         let counted = self
             .reporter
-            .count(number, position, Code::UnusedAllow, false)?;
-        let Some(severity) = counted else {
+            .count(number, position, Code::UnusedAllow, false);
+        let Some(counted) = counted else {
             return Ok(());
         };
         let line = if self.reads_line(number) {
@@ -261,7 +268,7 @@ impl<'a> Findings<'a> {
         let spot = code_spot(file, exception, octets);
         let text = Text::worded(self.alloc, "no finding to except", Some(name.as_bytes()))?;
         self.reporter
-            .show(severity, spot, Code::UnusedAllow, text.finding_text())
+            .show(counted, spot, Code::UnusedAllow, text.finding_text())
     }
 
     /// Reports that a rule is broken, by a record or by what is missing in the zone.
@@ -282,8 +289,8 @@ impl<'a> Findings<'a> {
         finding: &ZoneFinding,
     ) -> Result<(), RunError> {
         let (held, record) = (checked.held, finding.record);
-        let (code, at_target) = (finding.code, finding.is_at_target);
-        let Some(severity) = self.count_at(held, code, record, at_target)? else {
+        let (code, at_target) = (finding.rule.code, finding.is_at_target);
+        let Some(counted) = self.count_at(held, code, record, at_target) else {
             return Ok(());
         };
         let may_search = at_target && self.may_search(held.records.len());
@@ -292,7 +299,7 @@ impl<'a> Findings<'a> {
             record,
         };
         let text = rule_text(self.alloc, checked, &broken, may_search)?;
-        self.show_at(held, severity, code, record, at_target, &text)
+        self.show_at(held, counted, code, record, at_target, &text)
     }
 
     /// Returns whether a name like another is looked for among a number of records.
@@ -306,15 +313,15 @@ impl<'a> Findings<'a> {
         }
     }
 
-    /// Counts a finding at a record, or at its target, or at the first file's start. Returns its
-    /// severity if it may be shown.
+    /// Counts a finding at a record, or at its target, or at the first file's start. Returns it if it
+    /// may be shown.
     pub fn count_at(
         &mut self,
         held: &SortedZone,
         code: Code,
         record: Option<usize>,
         at_target: bool,
-    ) -> Result<Option<Severity>, AllocError> {
+    ) -> Option<KeptFinding> {
         let found = location_of(held, record);
         let (file, position) = place_of(found, at_target);
         self.select_exceptions(found);
@@ -344,7 +351,7 @@ impl<'a> Findings<'a> {
     pub fn show_at(
         &mut self,
         held: &SortedZone,
-        severity: Severity,
+        counted: KeptFinding,
         code: Code,
         record: Option<usize>,
         at_target: bool,
@@ -365,7 +372,7 @@ impl<'a> Findings<'a> {
             ..line_spot(name, file, position, octets)
         };
         let finding_text = subject.finding_text(text.message.as_str(), text.help.as_str());
-        self.reporter.show(severity, spot, code, finding_text)
+        self.reporter.show(counted, spot, code, finding_text)
     }
 
     /// Reports a finding at a record, or at its target, or at the first file's start.
@@ -377,8 +384,8 @@ impl<'a> Findings<'a> {
         at_target: bool,
         text: &Text,
     ) -> Result<(), RunError> {
-        match self.count_at(held, code, record, at_target)? {
-            Some(severity) => self.show_at(held, severity, code, record, at_target, text),
+        match self.count_at(held, code, record, at_target) {
+            Some(counted) => self.show_at(held, counted, code, record, at_target, text),
             None => Ok(()),
         }
     }

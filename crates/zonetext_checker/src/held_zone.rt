@@ -4,16 +4,16 @@ use crate::spelled_owners::SpelledOwners;
 use dns_lexer::position::Position;
 use dns_octets::AsOctets;
 use dns_wire::Name;
+use finding_codes::code::Code;
 use rdata_fields::RecordRef;
 use rdata_values::RecordType;
 use std::alloc::{AllocError, Global};
 use zone_check::zone_findings::{BrokenRule, DirectiveLine};
 use zone_contents::{Location, Locations, StoredZone, ZoneStore};
-use zone_dnssec::SecurityRule;
 use zone_reader::NameBuffer;
 use zone_record::{Record, record_of};
 use zone_rules::zone_records::OwnerBuffer;
-use zone_rules::{Finding, Rule, ZoneRecords};
+use zone_rules::{Finding, ZoneRecords};
 use zonetext_files::stop::RunError;
 
 /// The position of a record.
@@ -189,7 +189,7 @@ impl SortedZone {
 
 /// Returns the directive that generated the record of a duplicate, if one did.
 fn directive_of(finding: &Finding, zone: &SortedZone) -> Option<DirectiveLine> {
-    if finding.rule != Rule::Duplicate {
+    if finding.rule.code != Code::Duplicate {
         return None;
     }
     let location = zone.location(finding.record?)?;
@@ -220,20 +220,5 @@ pub fn broken_rules(
 
 /// Returns whether a finding is that the zone has no SOA.
 pub fn lacks_soa(found: &[Finding]) -> bool {
-    found.iter().any(|finding| finding.rule == Rule::NoSoa)
-}
-
-/// Returns whether a signed zone may break a rule because a record is missing.
-pub fn is_of_signed_absence(rule: SecurityRule) -> bool {
-    match rule {
-        SecurityRule::Unsigned
-        | SecurityRule::SignsNothing
-        | SecurityRule::NoNsec
-        | SecurityRule::OtherNext
-        | SecurityRule::OtherTypes
-        | SecurityRule::NoNsec3
-        | SecurityRule::OtherNextHash
-        | SecurityRule::OtherHashedTypes => true,
-        _ => false,
-    }
+    found.iter().any(|finding| finding.rule.code == Code::NoSoa)
 }

@@ -127,9 +127,9 @@ pub fn report_hidden<Origin: AsOctets>(
     for place in &found {
         let record = Some(*place);
         if !is_address(held, *place) {
-            if let Some(severity) = findings.count_at(held, Code::Hidden, record, false)? {
+            if let Some(counted) = findings.count_at(held, Code::Hidden, record, false) {
                 let text = Text::new(alloc, hidden_text(alloc, checked, *place)?);
-                findings.show_at(held, severity, Code::Hidden, record, false, &text)?;
+                findings.show_at(held, counted, Code::Hidden, record, false, &text)?;
             }
         } else if let Some(location) = held.location(*place) {
             if !has_gap && !findings.excepts(Code::Hidden, location) {
@@ -141,9 +141,9 @@ pub fn report_hidden<Origin: AsOctets>(
         return Ok(());
     };
     let record = Some(group.record);
-    if let Some(severity) = findings.count_at(held, Code::Hidden, record, false)? {
+    if let Some(counted) = findings.count_at(held, Code::Hidden, record, false) {
         let text = address_text(alloc, checked, group.record, group.count)?;
-        findings.show_at(held, severity, Code::Hidden, record, false, &text)?;
+        findings.show_at(held, counted, Code::Hidden, record, false, &text)?;
     }
     Ok(())
 }

@@ -13,6 +13,5 @@ mod refused_sets;
 mod rule_texts;
 mod scan;
 mod signature_groups;
-mod signed_zone;
 mod spelled_names;
 mod spelled_owners;

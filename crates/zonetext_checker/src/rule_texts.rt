@@ -2,14 +2,15 @@
 use crate::held_zone::{HeldRecord, RecordLocation, SortedZone};
 use dns_octets::AsOctets;
 use dns_wire::{DisplayWithDot, Name};
+use finding_codes::code::Code;
+use finding_codes::rule::Rule;
 use finding_texts::similar::edits_between;
 use rdata_values::RecordType;
 use std::alloc::{AllocError, Global};
-use zone_check::codes::code_of_rule;
 use zone_rules::hosts::dname_over_host;
 use zone_rules::names::{is_name_below, view};
 use zone_rules::zone_records::OwnerBuffer;
-use zone_rules::{Finding, Rule, SortedSets, ZoneRecords, find_broken};
+use zone_rules::{Finding, SortedSets, ZoneRecords, find_broken};
 use zonetext_findings::subjects::Text;
 
 /// The records of a zone, and its RRsets with a rejected entry.
@@ -41,7 +42,7 @@ pub fn other_soa<Origin: AsOctets>(
             return Ok(
                 found
                     .iter()
-                    .find(|finding| matches!(finding.rule, Rule::Outside | Rule::SoaNotApex))
+                    .find(|finding| matches!(finding.rule.code, Code::Outside | Code::SoaNotApex))
                     .copied(),
             );
         }
@@ -213,7 +214,7 @@ fn missing_target<Origin: AsOctets>(
     alloc: Global,
     records: &CheckedZone<'_, Origin>,
     record: &HeldRecord<'_>,
-    rule: Rule,
+    code: Code,
     may_search: bool,
 ) -> Result<Option<Text>, AllocError> {
     let Some(target) = target_of(record) else {
@@ -221,12 +222,14 @@ fn missing_target<Origin: AsOctets>(
     };
     let rtype = record.data.rtype();
     let name = DisplayWithDot::new(&target);
-    let message = match rule {
-        Rule::HostMissing => format!(in alloc; "{rtype} target {name} has no address in the zone")?,
-        Rule::CnameTargetMissing => {
+    let message = match code {
+        Code::TargetMissing => format!(in alloc;
+            "{rtype} target {name} has no address in the zone"
+        )?,
+        Code::CnameTargetMissing => {
             format!(in alloc; "{rtype} target {name} has no records in the zone")?
         }
-        Rule::NsAddress => format!(in alloc; "name server {name} has no address in the zone")?,
+        Code::NsAddress => format!(in alloc; "name server {name} has no address in the zone")?,
         _ => format!(in alloc; "name server {name} below the delegation has no address")?,
     };
     let text = Text::new(alloc, message);
@@ -329,13 +332,13 @@ fn own_text<Origin: AsOctets>(
         return Ok(None);
     };
     let record = &record;
-    match rule {
-        Rule::HostMissing | Rule::NsAddress | Rule::MissingGlue | Rule::CnameTargetMissing => {
-            missing_target(alloc, records, record, rule, may_search)
+    match rule.code {
+        Code::TargetMissing | Code::NsAddress | Code::Glue | Code::CnameTargetMissing => {
+            missing_target(alloc, records, record, rule.code, may_search)
         }
-        Rule::HostIsAlias => cname_target(alloc, record),
-        Rule::HostBelowDname => dname_target(alloc, records, record),
-        Rule::Cname => second_cname(alloc, records, record, place),
+        Code::TargetCname if rule.way == 0 => cname_target(alloc, record),
+        Code::TargetCname => dname_target(alloc, records, record),
+        Code::Cname => second_cname(alloc, records, record, place),
         _ => Ok(None),
     }
 }
@@ -353,5 +356,5 @@ pub fn rule_text<Origin: AsOctets>(
             return Ok(text);
         }
     }
-    Text::worded(alloc, code_of_rule(finding.rule).message(), None)
+    Text::worded(alloc, finding.rule.message(), None)
 }

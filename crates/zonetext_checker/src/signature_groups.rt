@@ -1,9 +1,10 @@
 //! Findings about the times of signatures: equal ones are reported together.
 use crate::held_zone::{RecordLocation, SortedZone};
+use finding_codes::code::Code;
 use rdata_values::{Date, RecordType};
 use std::alloc::{AllocError, Global};
 use std::cmp::Ordering;
-use zone_dnssec::{SecurityFinding, SecurityRule};
+use zone_dnssec::SecurityFinding;
 use zone_rules::zone_records::OwnerBuffer;
 use zonetext_findings::subjects::Text;
 
@@ -17,21 +18,13 @@ const INCEPTION: usize = 5;
 /// A finding about the time of signatures of one type.
 #[derive(Clone, Copy)]
 pub struct Group {
-    pub rule: SecurityRule,
+    pub rule: Code,
     covered: u16,
     seconds: u32,
     /// Index of the first of the records, in the order of the files.
     pub record: usize,
     location: RecordLocation,
     count: usize,
-}
-
-/// Returns whether a rule is about the time of a signature.
-pub fn is_of_time(rule: SecurityRule) -> bool {
-    matches!(
-        rule,
-        SecurityRule::Expired | SecurityRule::ExpiresSoon | SecurityRule::NotYetValid
-    )
 }
 
 /// Returns the number in two octets.
@@ -54,12 +47,12 @@ fn long_number(octets: Option<&[u8]>) -> u32 {
 
 /// Returns the finding about one signature, if its rule is about its time.
 fn group_of(finding: &SecurityFinding, zone: &SortedZone) -> Option<Group> {
-    if !is_of_time(finding.rule) {
+    if !finding.rule.is_of_time() {
         return None;
     }
     let mut owner = OwnerBuffer::new();
     let record = zone.record(finding.record, &mut owner)?;
-    let time = if finding.rule == SecurityRule::NotYetValid {
+    let time = if finding.rule == Code::NotYetValid {
         INCEPTION
     } else {
         EXPIRATION
@@ -75,10 +68,10 @@ fn group_of(finding: &SecurityFinding, zone: &SortedZone) -> Option<Group> {
 }
 
 /// Returns the number of a rule in the order of the groups.
-fn number_of(rule: SecurityRule) -> u8 {
+fn number_of(rule: Code) -> u8 {
     match rule {
-        SecurityRule::Expired => 0,
-        SecurityRule::ExpiresSoon => 1,
+        Code::Expired => 0,
+        Code::ExpiresSoon => 1,
         _ => 2,
     }
 }
@@ -162,8 +155,8 @@ impl Group {
         let time = time_text(alloc, self.seconds)?;
         let time = time.as_str();
         let what = match self.rule {
-            SecurityRule::Expired => "has expired",
-            SecurityRule::ExpiresSoon => "expires soon",
+            Code::Expired => "has expired",
+            Code::ExpiresSoon => "expires soon",
             _ => "is not valid yet",
         };
         let count = self.count;

@@ -5,6 +5,10 @@ use crate::scan::{separates, skip_to};
 use rdata::type_row;
 use rdata_fields::Field;
 use rdata_values::RecordType;
+use std::simd::prelude::*;
+
+/// Number of octets of one load.
+const LANES: usize = 16;
 
 /// Greatest number of tokens from the owner to the RDATA: TTL, class and type.
 const HEADER: usize = 3;
@@ -39,6 +43,19 @@ fn skip_word(octets: &[u8]) -> &[u8]
     ensures { length result.now ≤ length octets.now }
 {
     let mut rest = octets;
+    while rest.len() >= LANES {
+        let load = u8x16::from_slice(rest);
+        let blank = load.simd_le(u8x16::splat(b' ')) | load.simd_gt(u8x16::splat(b'~'));
+        let open = blank | load.simd_eq(u8x16::splat(b'('));
+        let close = open | load.simd_eq(u8x16::splat(b')'));
+        let quote = close | load.simd_eq(u8x16::splat(b'"'));
+        let comment = quote | load.simd_eq(u8x16::splat(b';'));
+        let found = (comment | load.simd_eq(u8x16::splat(b'\\'))).to_bitmask();
+        if found != 0 {
+            return rest.get(found.trailing_zeros() as usize..).unwrap_or(&[]);
+        }
+        rest = &rest[LANES..];
+    }
     while let [first, others @ ..] = rest {
         if !is_plain_octet(*first) {
             return rest;

@@ -3,8 +3,10 @@
 #![tactic(auto)]
 
 pub mod cursor;
+pub mod entry_cache;
 pub mod exceptions;
 pub mod explain;
+mod finding_copy;
 pub mod generate_findings;
 pub mod locations;
 pub mod machine;
@@ -12,4 +14,3 @@ pub mod octet_texts;
 pub mod reporter;
 pub mod subjects;
 pub mod totals;
-mod waiting;

@@ -218,11 +218,6 @@ pub fn position_at(entry: &Entry<'_>, at: usize) -> Position {
     place_after(entry.place(), &entry.held[..count]).position
 }
 
-/// Returns a cursor at the beginning of an entry.
-pub fn cursor_of<'e>(entry: &Entry<'e>) -> Cursor<'e> {
-    Cursor::new(entry.held)
-}
-
 /// Returns the position of an offset of an entry, which is counted from the entry's beginning, by a
 /// cursor of the entry. That of a generated entry is the position of its directive.
 pub fn next_position(entry: &Entry<'_>, cursor: &mut Cursor<'_>, at: usize) -> Position {
@@ -244,14 +239,37 @@ fn line_start(octets: &[u8], at: usize) -> usize
     }
 }
 
-/// Returns the line of an offset, without its end.
-fn line_at(octets: &[u8], at: usize) -> &[u8] {
-    let rest = &octets[line_start(octets, at)..];
+/// A line of octets.
+#[derive(Clone, Copy)]
+pub struct Line<'e> {
+    /// Offset of its first octet.
+    start: usize,
+    /// Offset of its LF, or of the end of the octets if it has none.
+    end: usize,
+    /// The line without its end.
+    pub octets: &'e [u8],
+}
+
+impl<'e> Line<'e> {
+    /// Returns whether an offset is in the line.
+    pub fn contains(&self, at: usize) -> bool {
+        self.start <= at && at <= self.end
+    }
+}
+
+/// Returns the line of an offset.
+pub fn line_at<'e>(octets: &'e [u8], at: usize) -> Line<'e> {
+    let start = line_start(octets, at);
+    let rest = &octets[start..];
     let line = match rest.iter().position(|octet| *octet == b'\n') {
         Some(end) => &rest[..end],
         None => rest,
     };
-    line.strip_suffix(b"\r").unwrap_or(line)
+    Line {
+        start,
+        end: start.saturating_add(line.len()),
+        octets: line.strip_suffix(b"\r").unwrap_or(line),
+    }
 }
 
 /// Returns the location of the directive of a generated entry: its word.
@@ -263,7 +281,7 @@ fn directive_spot<'e>(entry: &Entry<'e>, generated: Generated<'e>) -> FindingLoc
         position,
         end_column: position.column.saturating_add(DIRECTIVE.len()),
         opened: None,
-        line: Some(line_at(generated.held, 0)),
+        line: Some(line_at(generated.held, 0).octets),
         generated: Some(generated.number),
     }
 }
@@ -274,38 +292,62 @@ fn octets_of<'e>(entry: &Entry<'e>, at: usize, width: usize) -> &'e [u8] {
     rest.get(..width).unwrap_or(rest)
 }
 
+/// Returns the column before which `width` octets from an offset of an entry on end. The offset has a
+/// position. If they end on another line, it is the next column.
+fn end_column(entry: &Entry<'_>, at: usize, position: Position, width: usize) -> usize {
+    let end = place_after(LocatedOffset { at, position }, octets_of(entry, at, width)).position;
+    let next = position.column.saturating_add(1);
+    if end.line == position.line {
+        end.column.max(next)
+    } else {
+        next
+    }
+}
+
 /// Returns the location of `width` octets from an offset of an entry on, which is counted from the
-/// entry's beginning, and has a position.
+/// entry's beginning, and has a position. `line` is the line of the offset.
 pub fn located<'e>(
     entry: &Entry<'e>,
     at: usize,
     position: Position,
     width: usize,
+    line: Line<'e>,
 ) -> FindingLocation<'e> {
     if let Some(generated) = entry.generated {
         return directive_spot(entry, generated);
     }
-    let end = place_after(LocatedOffset { at, position }, octets_of(entry, at, width)).position;
-    let next = position.column.saturating_add(1);
     FindingLocation {
         file: entry.file,
         number: entry.number,
         position,
-        end_column: if end.line == position.line {
-            end.column.max(next)
-        } else {
-            next
-        },
+        end_column: end_column(entry, at, position, width),
         opened: None,
-        line: Some(line_at(entry.held, at)),
+        line: Some(line.octets),
         generated: None,
+    }
+}
+
+/// Returns a location at an offset of an entry with another number of octets.
+pub fn with_width<'e>(
+    entry: &Entry<'e>,
+    at: usize,
+    spot: FindingLocation<'e>,
+    width: usize,
+) -> FindingLocation<'e> {
+    if entry.generated.is_some() {
+        return spot;
+    }
+    FindingLocation {
+        end_column: end_column(entry, at, spot.position, width),
+        ..spot
     }
 }
 
 /// Returns the location of `width` octets from an offset of an entry on, which is counted from the
 /// entry's beginning.
 fn spot<'e>(entry: &Entry<'e>, at: usize, width: usize) -> FindingLocation<'e> {
-    located(entry, at, position_at(entry, at), width)
+    let line = line_at(entry.held, at);
+    located(entry, at, position_at(entry, at), width, line)
 }
 
 /// Returns the location of an entry's beginning.

@@ -1,6 +1,7 @@
 //! The messages of findings about the octets of entries.
+use crate::entry_cache::EntryCache;
 use crate::locations::{
-    begins_blank, data_start, fault_at, part_at, position_at, token_part, tokens_of, width,
+    begins_blank, data_start, fault_at, part_at, position_at, width, with_width,
 };
 use crate::reporter::FindingLocation;
 use crate::subjects::{Text, text_of};
@@ -90,14 +91,14 @@ pub fn is_of_file(code: Code) -> bool {
     )
 }
 
-/// Returns the token of an entry that has the octet at an offset.
-fn token_of<'e>(tokens: &[EntryToken<'e>], at: usize) -> Option<EntryToken<'e>> {
-    for token in tokens {
-        if token.at <= at && at < token.at.saturating_add(width(token)) {
-            return Some(*token);
-        }
+/// Returns the token of an entry that has the octet at an offset, and its index.
+fn token_of<'e>(tokens: &[EntryToken<'e>], at: usize) -> Option<(usize, EntryToken<'e>)> {
+    let count = tokens.partition_point(|token| token.at <= at);
+    let place = count.checked_sub(1)?;
+    match tokens.get(place) {
+        Some(token) if at < token.at.saturating_add(width(token)) => Some((place, *token)),
+        _ => None,
     }
-    None
 }
 
 /// Returns whether the token with this index, in data of a type, is a name.
@@ -108,34 +109,37 @@ fn is_name(rtype: RecordType, number: usize) -> bool {
     }
 }
 
-/// Returns whether a token of an entry is a name: the owner of a record, or one in its data.
-fn is_name_token(entry: &Entry<'_>, tokens: &[EntryToken<'_>], at: usize, is_blank: bool) -> bool {
+/// Returns whether the token of an entry with this index is a name: the owner of a record, or one in its
+/// data.
+fn is_name_token(
+    entry: &Entry<'_>,
+    tokens: &[EntryToken<'_>],
+    place: usize,
+    is_blank: bool,
+) -> bool {
     let rtype = match entry.read {
         Ok(ParsedEntry::Record { rtype, .. }) => *rtype,
         _ => return false,
     };
-    let start = data_start(tokens, is_blank);
-    for (place, token) in tokens.iter().enumerate() {
-        if token.at == at {
-            let is_owner = place == 0 && !is_blank;
-            return is_owner || (place >= start && is_name(rtype, place - start));
-        }
+    if place == 0 && !is_blank {
+        return true;
     }
-    false
+    let start = data_start(tokens, is_blank);
+    place >= start && is_name(rtype, place - start)
 }
 
-/// Returns the text about a token with an octet outside of ASCII.
+/// Returns the text about a token with an octet outside of ASCII, which has an index.
 fn not_ascii(
     alloc: Global,
     entry: &Entry<'_>,
     tokens: &[EntryToken<'_>],
+    place: usize,
     token: &EntryToken<'_>,
-    is_blank: bool,
 ) -> Result<Text, AllocError> {
     let word = quoted(alloc, token.text)?;
     let message = format!(in alloc; "{word} is not ASCII")?;
     let text = Text::new(alloc, message);
-    if token.is_quoted || !is_name_token(entry, tokens, token.at, is_blank) {
+    if token.is_quoted || !is_name_token(entry, tokens, place, begins_blank(entry)) {
         return Ok(text);
     }
     match ascii_name(alloc, token.text)? {
@@ -144,29 +148,26 @@ fn not_ascii(
     }
 }
 
-/// Returns the location and the text of an octet outside of ASCII.
+/// Returns the location and the text of an octet outside of ASCII. `tokens` are those of the entry.
 fn high_octet_text<'e>(
     alloc: Global,
     entry: &Entry<'e>,
+    tokens: &[EntryToken<'_>],
     spot: FindingLocation<'e>,
     at: usize,
-    is_blank: bool,
 ) -> Result<(FindingLocation<'e>, Text), AllocError> {
-    let tokens = tokens_of(alloc, entry)?;
-    let tokens = tokens.as_slice();
-    let Some(token) = token_of(tokens, at) else {
+    let Some((place, token)) = token_of(tokens, at) else {
         return Ok((spot, Text::worded(alloc, Code::HighOctet.message(), None)?));
     };
     let octets = entry.octets.get(at..).unwrap_or(&[]);
     let count = quotation_mark(octets);
     if count == 0 {
-        return Ok((spot, not_ascii(alloc, entry, tokens, &token, is_blank)?));
+        return Ok((spot, not_ascii(alloc, entry, tokens, place, &token)?));
     }
     let word = quoted(alloc, octets.get(..count).unwrap_or(&[]))?;
     let message = format!(in alloc; "{word} is no quotation mark")?;
-    let offset = at.saturating_sub(token.at);
     Ok((
-        token_part(entry, &token, offset, count),
+        with_width(entry, at, spot, count),
         Text::new(alloc, message),
     ))
 }
@@ -175,16 +176,19 @@ fn high_octet_text<'e>(
 pub fn octet_text<'e>(
     alloc: Global,
     entry: &Entry<'e>,
+    cache: &mut EntryCache<'e>,
     spot: FindingLocation<'e>,
     finding: &EntryFinding,
 ) -> Result<(FindingLocation<'e>, Text), AllocError> {
-    let is_blank = begins_blank(entry);
     match finding.code {
-        Code::HighOctet => high_octet_text(alloc, entry, spot, finding.start, is_blank),
+        Code::HighOctet => {
+            cache.read_tokens(entry)?;
+            high_octet_text(alloc, entry, cache.tokens(), spot, finding.start)
+        }
         Code::ControlOctet | Code::AdjacentTokens => {
-            let tokens = tokens_of(alloc, entry)?;
-            let word = match token_of(tokens.as_slice(), finding.start) {
-                Some(token) => Some(token.text),
+            cache.read_tokens(entry)?;
+            let word = match token_of(cache.tokens(), finding.start) {
+                Some((_, token)) => Some(token.text),
                 None => None,
             };
             Ok((spot, Text::worded(alloc, finding.code.message(), word)?))

@@ -1,15 +1,15 @@
 //! Reports findings.
 use crate::exceptions::Exceptions;
+use crate::finding_copy::FindingCopy;
 use crate::machine::{Before, Format};
-use crate::waiting::Waiting;
 use dns_lexer::position::Position;
-use finding_codes::code::{Code, Severity};
+use finding_codes::code::Code;
 use finding_codes::policy::Policy;
 use finding_codes::tally::Tally;
 use std::alloc::{AllocError, Global};
 use std::io::Write;
-use zone_check::collector::{FindingCollector, FoundFinding};
-use zone_check::finding_order::KeptFinding;
+use zone_check::collector::{FindingCollector, FoundFinding, kept_finding};
+use zone_check::finding_order::{Kept, KeptFinding};
 use zone_check::shown::{Decision, can_be_excepted, decide, severity_of};
 use zonetext_files::stop::RunError;
 use zonetext_report::excerpt::push_excerpt;
@@ -110,9 +110,7 @@ pub struct Reporter<'a> {
     pub exceptions: Exceptions,
     out: Vec<u8>,
     /// The findings that may be shown, if they are written at the end, in the order of the files.
-    collector: Option<FindingCollector<'a>>,
-    /// The texts of findings, if they are written at the end.
-    waiting: Option<Waiting>,
+    collector: Option<FindingCollector<'a, FindingCopy>>,
 }
 
 impl<'a> Reporter<'a> {
@@ -129,7 +127,6 @@ impl<'a> Reporter<'a> {
             exceptions: Exceptions::new(rt.alloc()),
             out: Vec::new(rt.alloc()),
             collector: None,
-            waiting: None,
         }
     }
 
@@ -139,7 +136,6 @@ impl<'a> Reporter<'a> {
     pub fn wait(&mut self) {
         let most = self.tally.most;
         self.collector = Some(FindingCollector::new(self.rt.alloc(), self.policy, most));
-        self.waiting = Some(Waiting::new(self.rt.alloc(), most));
     }
 
     /// Returns the same reporter, which writes findings to standard output, as comments of a zone
@@ -177,31 +173,15 @@ impl<'a> Reporter<'a> {
         let Some(collector) = self.collector.take() else {
             return Ok(());
         };
-        let mut shown = Vec::new(self.rt.alloc());
-        collector.finish(&mut shown)?;
-        let Some(mut waiting) = self.waiting.take() else {
-            return Ok(());
-        };
-        waiting.sort()?;
-        self.write_shown(shown.as_slice(), &waiting)
+        let shown = collector.finish()?;
+        self.write_shown(shown.as_slice())
     }
 
-    /// Writes the findings that are shown. Their texts are in the same order.
-    fn write_shown(&mut self, shown: &[KeptFinding], waiting: &Waiting) -> Result<(), RunError> {
-        let mut start: usize = 0;
+    /// Writes findings.
+    fn write_shown(&mut self, shown: &[Kept<FindingCopy>]) -> Result<(), RunError> {
         for kept in shown {
-            if let Some(place) = waiting.place_of(kept, start) {
-                start = place.saturating_add(1);
-                self.write_waiting(waiting, place)?;
-            }
-        }
-        Ok(())
-    }
-
-    /// Writes the finding whose texts are at a place.
-    fn write_waiting(&mut self, waiting: &Waiting, place: usize) -> Result<(), RunError> {
-        if let Some((finding, line)) = waiting.finding(place) {
-            self.push(&finding, line, waiting.generated(place))?;
+            let copy = &kept.text;
+            self.push(&copy.finding(), copy.line(), copy.generated)?;
             self.write()?;
         }
         Ok(())
@@ -232,17 +212,17 @@ impl<'a> Reporter<'a> {
         }
     }
 
-    /// Counts a finding at a position of a file, which has a number, and returns the finding's severity
-    /// if it is to be shown. A finding that an exception
-    /// in effect names is omitted. A finding that keeps a record from being read is an error, and is
-    /// not omitted. Fails without memory; the finding is then not counted.
+    /// Counts a finding at a position of a file, which has a number, and returns it if it may be shown.
+    /// [`Reporter::show`] then shows it, before the next one is counted. A finding that an exception in
+    /// effect names is omitted. A finding that keeps a record from being read is an error, and is not
+    /// omitted.
     pub fn count(
         &mut self,
         file: usize,
         position: Position,
         code: Code,
         is_refused: bool,
-    ) -> Result<Option<Severity>, AllocError> {
+    ) -> Option<KeptFinding> {
         let is_excepted = can_be_excepted(code, is_refused) && self.exceptions.excepts(code);
         let found = FoundFinding {
             file,
@@ -251,41 +231,22 @@ impl<'a> Reporter<'a> {
             is_refused,
             is_excepted,
         };
-        if self.collector.is_some() {
-            return self.collect(found);
+        if let Some(collector) = &mut self.collector {
+            let judged = collector.judge(found);
+            self.tally = collector.tally;
+            return judged;
         }
         let severity = severity_of(&self.policy, code, is_refused, is_excepted);
         match decide(&mut self.tally, severity) {
-            Decision::Shown(severity) => Ok(Some(severity)),
-            Decision::Counted(_) | Decision::Omitted => Ok(None),
+            Decision::Shown(severity) => Some(kept_finding(0, found, severity)),
+            Decision::Counted(_) | Decision::Omitted => None,
         }
     }
 
-    /// Collects a finding, and returns its severity if it may be shown.
-    fn collect(&mut self, found: FoundFinding) -> Result<Option<Severity>, AllocError> {
-        let Some(collector) = &mut self.collector else {
-            return Ok(None);
-        };
-        let kept = collector.add(found)?;
-        self.tally = collector.tally;
-        match (kept, &self.waiting) {
-            (Some(kept), Some(waiting)) if waiting.accepts(&kept) => Ok(Some(kept.severity)),
-            _ => Ok(None),
-        }
-    }
-
-    /// Returns the finding that was counted last, if findings wait.
-    fn last_counted(&self) -> Option<KeptFinding> {
-        match &self.collector {
-            Some(collector) => collector.kept.last().copied(),
-            None => None,
-        }
-    }
-
-    /// Shows a finding that was counted.
+    /// Shows a finding that was counted last, or keeps it if findings wait.
     pub fn show(
         &mut self,
-        severity: Severity,
+        counted: KeptFinding,
         spot: FindingLocation<'_>,
         code: Code,
         finding_text: FindingText<'_>,
@@ -293,7 +254,7 @@ impl<'a> Reporter<'a> {
         let message = generated_message(self.rt.alloc(), spot.generated, finding_text.message)?;
         let finding = Finding {
             file: spot.file,
-            severity,
+            severity: counted.severity,
             code,
             position: spot.position,
             end_column: spot.end_column,
@@ -307,24 +268,14 @@ impl<'a> Reporter<'a> {
             help: finding_text.help,
             note: finding_text.note,
         };
-        if let Some(kept) = self.last_counted() {
-            return self.keep_text(kept, &finding, spot);
+        let line = if self.shows_lines() { spot.line } else { None };
+        if let Some(collector) = &mut self.collector {
+            let copy = FindingCopy::new(self.rt.alloc(), &finding, line, spot.generated)?;
+            collector.keep(counted, copy)?;
+            return Ok(());
         }
-        self.push(&finding, spot.line, spot.generated)?;
+        self.push(&finding, line, spot.generated)?;
         self.write()
-    }
-
-    /// Stores the texts of a finding that was counted.
-    fn keep_text(
-        &mut self,
-        kept: KeptFinding,
-        finding: &Finding<'_>,
-        spot: FindingLocation<'_>,
-    ) -> Result<(), RunError> {
-        if let Some(waiting) = &mut self.waiting {
-            waiting.add(kept, finding, spot.line, spot.generated)?;
-        }
-        Ok(())
     }
 
     /// Counts and shows a finding.
@@ -335,8 +286,8 @@ impl<'a> Reporter<'a> {
         is_refused: bool,
         finding_text: FindingText<'_>,
     ) -> Result<(), RunError> {
-        match self.count(spot.number, spot.position, code, is_refused)? {
-            Some(severity) => self.show(severity, spot, code, finding_text),
+        match self.count(spot.number, spot.position, code, is_refused) {
+            Some(counted) => self.show(counted, spot, code, finding_text),
             None => Ok(()),
         }
     }

@@ -1,17 +1,15 @@
 //! Findings about the records of a zone.
 use super::Checker;
-use crate::held_zone::{SortedZone, broken_rules, is_of_signed_absence, lacks_soa};
+use crate::held_zone::{SortedZone, broken_rules, lacks_soa};
 use crate::hidden_zone::report_hidden;
 use crate::rule_texts::{CheckedZone, other_soa};
-use crate::signature_groups::{groups_of, is_of_time};
-use crate::signed_zone::signed_findings;
+use crate::signature_groups::groups_of;
 use dns_octets::AsOctets;
 use dns_wire::{DisplayWithDot, Name};
 use finding_codes::code::Code;
 use rdata_values::RecordType;
-use zone_check::codes::{code_of_rule, code_of_security};
 use zone_check::zone_findings::{DirectiveLine, ZoneContext, find_in_zone};
-use zone_dnssec::Times;
+use zone_dnssec::{Times, check_signed};
 use zone_rules::names::view;
 use zone_rules::{Finding, SortedSets, ZoneRecords, find_broken, find_lacking};
 use zonetext_files::stop::RunError;
@@ -63,7 +61,7 @@ impl<'a> Checker<'a> {
         find_lacking(zone, &held.records, &refused, &mut found)?;
         if is_zone && lacks_soa(found.as_slice()) {
             if let Some(finding) = other_soa(self.alloc, &checked)? {
-                let code = code_of_rule(finding.rule);
+                let code = finding.rule.code;
                 return self.report_other_soa(held, code, finding.record, zone);
             }
         }
@@ -116,19 +114,20 @@ impl<'a> Checker<'a> {
                 Ok(())
             };
         }
-        let found = signed_findings(self.alloc, held, zone, times)?;
+        let found = check_signed(self.alloc, zone, times, &held.records)?;
         for finding in &found {
-            if (!is_whole && is_of_signed_absence(finding.rule)) || is_of_time(finding.rule) {
+            let code = finding.rule;
+            if (!is_whole && code.is_of_absence()) || code.is_of_time() {
                 continue;
             }
             self.findings
-                .report_broken(held, code_of_security(finding.rule), Some(finding.record))?;
+                .report_broken(held, code, Some(finding.record))?;
         }
         let joins = self.findings.reporter.joins_equal();
         let groups = groups_of(self.alloc, found.as_slice(), held, joins)?;
         for group in &groups {
             let text = group.text(self.alloc)?;
-            let (code, record) = (code_of_security(group.rule), Some(group.record));
+            let (code, record) = (group.rule, Some(group.record));
             self.findings.report_at(held, code, record, false, &text)?;
         }
         Ok(())
