@@ -23,7 +23,8 @@ import subprocess
 import sys
 
 sys.dont_write_bytecode = True
-sys.path.insert(0, os.path.dirname(os.path.abspath(__file__)))
+ANSWERS = "crates/test_support/answers"
+sys.path.insert(0, os.path.join(os.path.dirname(os.path.dirname(os.path.abspath(__file__))), ANSWERS))
 from row_file import FILES, STDIN, rows_of
 
 WHO = ("c", "rust", "programs", "rattle")
@@ -49,7 +50,7 @@ def c(folder="out/c"):
     """Rows that the C library answers, as they are or converted by as_data.py."""
     found = set()
     for file in FILES:
-        _, data, _ = run([".ci/as_data.py", file])
+        _, data, _ = run([f"{ANSWERS}/as_data.py", file])
         whole, as_data = octets_of(file), set()
         for text, rows in ((whole, found), (data, as_data)):
             status, out, err = run([f"{folder}/rows", "--list", file], text)

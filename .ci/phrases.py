@@ -1,7 +1,7 @@
 #!/usr/bin/env python3
 """Counts phrases that this project doesn't write any more, in pages, comments, messages and help texts.
 
-usage: .ci/phrases [--list [PHRASE]]
+usage: .ci/phrases.py [--list [PHRASE]]
 
 CONTRIBUTING has the rules. A line of .ci/phrases.tsv is a phrase, as a regular expression, and what to
 write instead. A line of .ci/phrases_allowed.tsv is an exception: a file, a phrase, the number of lines of
@@ -30,7 +30,7 @@ COMMENTS = {
 # The ends of a comment of several lines, by the ending of the file's name.
 BLOCKS = {".c": ("/*", "*/"), ".h": ("/*", "*/"), ".py": ('"""', '"""')}
 PAGES = (".md", ".1", ".3")
-SKIPPED = ("CHANGELOG.md", "LICENSE", "phrases.tsv", "phrases_allowed.tsv")
+SKIPPED = ("LICENSE", "phrases.tsv", "phrases_allowed.tsv")
 
 
 def code_prose(line, ending, in_block):
@@ -88,7 +88,7 @@ def main(words):
     failed = [f"'{pattern}' in {count} lines of {path} ({allowed.get((path, pattern), 0)} allowed)"
               for (path, pattern), count in counts.items() if count > allowed.get((path, pattern), 0)]
     if failed:
-        print(f"FAILED: phrases: {'; '.join(failed)}: `.ci/phrases --list` shows them")
+        print(f"FAILED: phrases: {'; '.join(failed)}: `.ci/phrases.py --list` shows them")
         return 1
     unused = [f"{path} ({pattern})" for (path, pattern), most in allowed.items() if counts[path, pattern] < most]
     print(f"phrases: {sum(counts.values())} lines have one"

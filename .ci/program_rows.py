@@ -35,7 +35,8 @@ import threading
 
 sys.dont_write_bytecode = True
 HERE = os.path.dirname(os.path.abspath(__file__))
-sys.path.insert(0, HERE)
+ANSWERS = os.path.join(os.path.dirname(HERE), "crates/test_support/answers")
+sys.path.insert(0, ANSWERS)
 import program_calls
 import program_records
 from row_file import FILES, rows_of
@@ -213,7 +214,7 @@ def library_of(folder):
     compiler = os.environ.get("CC", "cc")
     if shutil.which(compiler) is None:
         return None
-    subprocess.run([compiler, "-shared", "-fPIC", "-O1", os.path.join(HERE, "refuse.c"), "-o", made, "-ldl"], check=True)
+    subprocess.run([compiler, "-shared", "-fPIC", "-O1", os.path.join(ANSWERS, "refuse.c"), "-o", made, "-ldl"], check=True)
     return made
 
 

@@ -291,10 +291,10 @@ class Runner:
 
 
 def most_jobs():
-    """Returns the number of jobs: of processors, or less if memory doesn't allow as many builds."""
+    """Returns the number of jobs: one less than processors, or fewer if memory doesn't allow as many builds."""
     with open("/proc/meminfo", encoding="ascii") as lines:
         free = next(int(it.split()[1]) // 1024 for it in lines if it.startswith("MemAvailable"))
-    return max(1, min(len(os.sched_getaffinity(0)), free // BUILD_SIZE))
+    return max(1, min(len(os.sched_getaffinity(0)) - 1, free // BUILD_SIZE))
 
 
 def files_here():

@@ -3,20 +3,22 @@
 
 usage: .ci/words.py [--count]
 
-These are the forms of stand, tell, take, give, go, say, behind, left and front: GLOSSARY has a verb for each
-act (parse, print, return, report, append, skip, store, compare), and positions are before, after and at the
-end. Looks at the names that specs/ exports, and at the items and variants of src/. A name that needs such a
-word is listed in .ci/words with its reason. Ends with status 1 if another name has one, if .ci/words lists a
-name that no file has, or if it lists more than MOST. --count prints the number of such names alone.
+FORMS has these words: GLOSSARY has a verb for each act (parse, print, return, report, append, skip, store,
+compare), and positions are before, after and at the end. Looks at the names that specs/ exports, and at the
+items and variants of src/. A line of .ci/words has names that need such a word, and the reason. Ends with
+status 1 if another name has one, if .ci/words lists a name that no file has, or if it lists more than MOST.
+--count prints the number of such names alone.
 """
 import re
 import sys
 
 import names
 
-MOST = 40
-FORMS = """stand stands standing stood tell tells telling told take takes taking took taken give gives giving
-gave given giver go goes going gone went say says said saying behind left front fronts""".split()
+MOST = 14
+FORMS = (
+    "stand stands standing stood tell tells telling told take takes taking took taken give gives giving gave given giver "
+    "go goes going gone went say says said saying behind left front fronts"
+).split()
 LISTED = names.TOP.parent / ".ci/words"
 
 
@@ -40,8 +42,8 @@ def declared(text):
 
 def reasons():
     """Returns the reason of each listed name."""
-    lines = LISTED.read_text(encoding="utf-8").splitlines() if LISTED.exists() else []
-    return dict(line.split("\t", 1) for line in lines[1:] if "\t" in line)
+    rows = [line.split("\t", 1) for line in LISTED.read_text(encoding="utf-8").splitlines()[1:] if "\t" in line]
+    return {name: why for names_of_line, why in rows for name in names_of_line.split()}
 
 
 def main():

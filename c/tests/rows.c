@@ -1,5 +1,5 @@
 /* Rows of crates/test_rows and crates/test_records that the library can answer, as they are or converted to
- * rows about RDATA by .ci/as_data.py. Most calls run with buffers of each smaller size, and with the exact
+ * rows about RDATA by as_data.py of test_support. Most calls run with buffers of each smaller size, and with the exact
  * one. Prints the names of the calls that the library does not have. Rows about zones are in zones.c. */
 #include "texts.h"
 

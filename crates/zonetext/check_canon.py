@@ -17,6 +17,10 @@ import signal
 import subprocess
 import sys
 import tempfile
+from functools import partial
+
+sys.dont_write_bytecode = True
+from check_support import counts, program_of, put, run as ran, same
 
 try:
     import dns.zone
@@ -25,8 +29,8 @@ try:
 except ImportError:
     dns = None
 
-HERE = os.path.dirname(os.path.abspath(__file__))
-PROGRAM = os.path.abspath(sys.argv[1] if len(sys.argv) > 1 else f'{HERE}/out/zonetext')
+PROGRAM = program_of(sys.argv[1:])
+run = partial(ran, PROGRAM)
 SEED = int(sys.argv[2]) if len(sys.argv) > 2 else 1
 LDNS = 'ldns-read-zone'
 SIGNER = 'ldns-signzone'
@@ -35,25 +39,6 @@ SANITIZED, UNPROVED = 'SANITIZED' in os.environ, 'UNPROVED' in os.environ
 ROUNDS = 40
 LINES = 20 if SANITIZED else 60
 LESS = 40 if SANITIZED else 8 if UNPROVED else 1
-counts = {'rows': 0, 'wrong': 0}
-
-
-def run(*words, given='', **how):
-    ran = subprocess.run([PROGRAM, *words], input=given.encode('latin-1'), stdout=subprocess.PIPE, stderr=subprocess.PIPE, **how)
-    return ran.returncode, ran.stdout.decode('latin-1'), ran.stderr.decode('latin-1')
-
-
-def same(title, got, wanted):
-    counts['rows'] += 1
-    if got != wanted:
-        counts['wrong'] += 1
-        print(f'differs: {title}\n  got    {got!r:.2000}\n  wanted {wanted!r:.2000}')
-
-
-def put(name, text):
-    with open(name, 'w', encoding='latin-1') as file:
-        file.write(text)
-
 
 ZONE = '''$TTL 3600
 @ IN SOA ns.Example. admin.example. 5 3600 900 604800 300
@@ -385,8 +370,6 @@ def digest_beside(made, title):
 
 
 def main():
-    if not os.access(PROGRAM, os.X_OK):
-        sys.exit(f'no program {PROGRAM}: rt run, in crates/zonetext, builds it')
     with tempfile.TemporaryDirectory() as scratch:
         os.chdir(scratch)
         canon_rows()

@@ -13,37 +13,18 @@ import shutil
 import subprocess
 import sys
 import tempfile
+from functools import partial
 
-HERE = os.path.dirname(os.path.abspath(__file__))
-PROGRAM = os.path.abspath(sys.argv[1] if len(sys.argv) > 1 else f'{HERE}/out/zonetext')
+sys.dont_write_bytecode = True
+from check_support import counts, held, program_of, put, run as ran, same
+
+PROGRAM = program_of(sys.argv[1:])
+run = partial(ran, PROGRAM)
 SEED = int(sys.argv[2]) if len(sys.argv) > 2 else 1
 BIND = 'named-compilezone'
 # (an unproved program takes more time, and a sanitized one far more, and memory)
 SANITIZED, UNPROVED = 'SANITIZED' in os.environ, 'UNPROVED' in os.environ
 NOTHING = 'zonetext: nothing is written\n'
-counts = {'rows': 0, 'wrong': 0}
-
-
-def run(*words, given=b'', program=PROGRAM):
-    ran = subprocess.run([program, *words], input=given, stdout=subprocess.PIPE, stderr=subprocess.PIPE)
-    return ran.returncode, ran.stdout, ran.stderr.decode()
-
-
-def same(title, got, wanted):
-    counts['rows'] += 1
-    if got != wanted:
-        counts['wrong'] += 1
-        print(f'differs: {title}\n  got    {got!r:.2000}\n  wanted {wanted!r:.2000}')
-
-
-def put(name, text):
-    with open(name, 'wb') as file:
-        file.write(text)
-
-
-def get(name):
-    with open(name, 'rb') as file:
-        return file.read()
 
 
 def parts(prefix='part'):
@@ -57,7 +38,7 @@ def clear():
 
 def records(*names):
     """What `records` prints of each file by itself, in a row."""
-    lines = b''
+    lines = ''
     for name in names:
         status, out, err = run('records', name)
         same(f'{name} is read', (status, err), (0, ''))
@@ -93,13 +74,13 @@ def zone(chance, lines, beginning):
             text += chance.choice(['\t', '  '])
             number += 1
         text += '\n'
-    return text.encode()
+    return text
 
 
 def compiled(name):
     """The records that named-compilezone loads, in order, each once; or why it loads none."""
-    status, out, err = run('-q', '-i', 'none', '-k', 'ignore', '-o', '-', 'example', name, program=BIND)
-    return sorted(set(out.split(b'\n'))) if status == 0 else err
+    status, out, err = ran(BIND, '-q', '-i', 'none', '-k', 'ignore', '-o', '-', 'example', name)
+    return sorted(set(out.split('\n'))) if status == 0 else err
 
 
 def random_zones(chance):
@@ -109,11 +90,11 @@ def random_zones(chance):
         whole = records('zone')
         for count in (1, 2, 7, 40):
             status, out, err = run('cut', str(count), 'zone', '-o', 'part')
-            same('cut', (status, err, out.decode().split()), (0, '', parts()))
+            same('cut', (status, err, out.split()), (0, '', parts()))
             same(f'at most {count} parts', len(parts()) <= count, True)
             same(f'the records of round {round} in {count} parts', records(*parts()), whole)
             for name in parts():
-                same('a part begins so', get(name).startswith(b'$ORIGIN '), True)
+                same('a part begins so', held(name).startswith('$ORIGIN '), True)
             if shutil.which(BIND):
                 beside_bind()
             clear()
@@ -123,66 +104,66 @@ def beside_bind():
     """Compares the records of the parts, each after the SOA, the NS and its address, with those of the whole
     zone. The records of an owner are in one part, so that no RRset has two TTLs."""
     whole = compiled('zone')
-    apex = [line for line in whole if line.startswith((b'example.\t', b'ns.example.\t'))]
-    put('apex', b'\n'.join(apex) + b'\n')
+    apex = [line for line in whole if line.startswith(('example.\t', 'ns.example.\t'))]
+    put('apex', '\n'.join(apex) + '\n')
     found = set()
     for name in parts():
-        put('wrapped', b'$INCLUDE apex\n' + get(name))
+        put('wrapped', '$INCLUDE apex\n' + held(name))
         found |= set(compiled('wrapped'))
     same('as BIND loads them', sorted(found), whole)
 
 
 def rows():
-    put('zone', b'@ 60 SOA ns h 1 4 2 9 5\n@ NS ns\nns A 192.0.2.1\n')
+    put('zone', '@ 60 SOA ns h 1 4 2 9 5\n@ NS ns\nns A 192.0.2.1\n')
     same('an origin that is given', run('cut', '9', '--zone', 'example', '--soa', 'zone', '-o', 'part'),
-         (0, b'part.000\npart.001\n', ''))
-    soa = b'$ORIGIN example.\nexample. 60 IN SOA ns.example. h.example. 1 4 2 9 5\n'
-    same('the SOA', (get('part.000'), get('part.001')), (soa + b'@ NS ns\n', soa + b'ns.example. 60 IN A 192.0.2.1\n'))
+         (0, 'part.000\npart.001\n', ''))
+    soa = '$ORIGIN example.\nexample. 60 IN SOA ns.example. h.example. 1 4 2 9 5\n'
+    same('the SOA', (held('part.000'), held('part.001')), (soa + '@ NS ns\n', soa + 'ns.example. 60 IN A 192.0.2.1\n'))
     there = run('cut', '1', '--origin', 'example', 'zone', '-o', 'part')
-    same('nothing is replaced', (there[:2], there[2].split(': ')[:2], there[2].endswith(NOTHING)), ((3, b''), ['zonetext', 'part.000'], True))
-    same('and all is as it was', (parts(), get('part.000')), (['part.000', 'part.001'], soa + b'@ NS ns\n'))
-    put('two', b'a. 60 SOA b. c. 1 4 2 9 5\nb. 60 SOA b. c. 1 4 2 9 5\n')
-    same('SOAs of two zones', run('cut', '2', 'two', '--soa', '-o', 'other'), (1, b'', 'two:2:1: error: SOA of b., and the zone is a.\n' + NOTHING))
-    same('another zone than is given', run('cut', '2', 'two', '--zone', 'b.', '--soa', '-o', 'other'), (1, b'', 'two:1:1: error: SOA of a., and the zone is b.\n' + NOTHING))
-    same('which are cut without their SOA', (run('cut', '1', 'two', '-o', 'other'), get('other.000').count(b'SOA')), ((0, b'other.000\n', ''), 2))
+    same('nothing is replaced', (there[:2], there[2].split(': ')[:2], there[2].endswith(NOTHING)), ((3, ''), ['zonetext', 'part.000'], True))
+    same('and all is as it was', (parts(), held('part.000')), (['part.000', 'part.001'], soa + '@ NS ns\n'))
+    put('two', 'a. 60 SOA b. c. 1 4 2 9 5\nb. 60 SOA b. c. 1 4 2 9 5\n')
+    same('SOAs of two zones', run('cut', '2', 'two', '--soa', '-o', 'other'), (1, '', 'two:2:1: error: SOA of b., and the zone is a.\n' + NOTHING))
+    same('another zone than is given', run('cut', '2', 'two', '--zone', 'b.', '--soa', '-o', 'other'), (1, '', 'two:1:1: error: SOA of a., and the zone is b.\n' + NOTHING))
+    same('which are cut without their SOA', (run('cut', '1', 'two', '-o', 'other'), held('other.000').count('SOA')), ((0, 'other.000\n', ''), 2))
     os.remove('other.000')
     os.remove('part.000')
     there = run('cut', '9', '--zone', 'example', 'zone', '-o', 'part')
-    same('not a later one either', (there[:2], there[2].split(': ')[:2], there[2].endswith(NOTHING)), ((3, b''), ['zonetext', 'part.001'], True))
+    same('not a later one either', (there[:2], there[2].split(': ')[:2], there[2].endswith(NOTHING)), ((3, ''), ['zonetext', 'part.001'], True))
     same('and none is left', parts(), ['part.001'])
     clear()
     same('no origin', run('cut', '2', 'zone', '-o', 'part'),
-         (1, b'', 'zone:1:1: error: relative name, and no origin \'@\' [no-origin]\n1 error, 0 warnings\n'
+         (1, '', 'zone:1:1: error: relative name, and no origin \'@\' [no-origin]\n1 error, 0 warnings\n'
           'zonetext: no origin: give --zone\n' + NOTHING))
-    put('faulty', b'a. 60 A 192.0.2.1\nb. A 192.0.2.256\n$INCLUDE c\nd. TXT (\n')
+    put('faulty', 'a. 60 A 192.0.2.1\nb. A 192.0.2.256\n$INCLUDE c\nd. TXT (\n')
     same('faults', run('cut', '2', 'faulty', '-o', 'part'),
-         (1, b'', 'faulty:2:6: error: b. A: address: expected IPv4 address \'192.0.2.256\' [data]\n'
+         (1, '', 'faulty:2:6: error: b. A: address: expected IPv4 address \'192.0.2.256\' [data]\n'
           'faulty:3:10: error: not included: a file that includes others is not cut \'c\' [include]\n'
           'faulty:4:8: error: d. TXT: parenthesis is not closed [open-parenthesis]\nnote: the file ends at 5:1\n3 errors, 0 warnings\n' + NOTHING))
-    put('long', b'long. TXT' + b' aaaaaaaaaaaaaaaaaaaaaaaaaaaaaaaaaaaaaaa' * 1700 + b'\n')
+    put('long', 'long. TXT' + ' aaaaaaaaaaaaaaaaaaaaaaaaaaaaaaaaaaaaaaa' * 1700 + '\n')
     status, out, err = run('cut', '2', 'long', '-o', 'part')
-    same('data above 65,535 octets', (status, out, 'RDATA exceeds 65535 octets' in err, err.endswith(NOTHING)), (1, b'', True, True))
-    put('minimum', b'a. SOA b. c. 1 2 3 4 4294967295\n')
-    same('a minimum of 2^31 and more is 0', (run('cut', '2', 'minimum', '-o', 'part'), get('part.000')),
-         ((0, b'part.000\n', ''), b'$TTL 0\na. 0 IN SOA b. c. 1 2 3 4 4294967295\n'))
+    same('data above 65,535 octets', (status, out, 'RDATA exceeds 65535 octets' in err, err.endswith(NOTHING)), (1, '', True, True))
+    put('minimum', 'a. SOA b. c. 1 2 3 4 4294967295\n')
+    same('a minimum of 2^31 and more is 0', (run('cut', '2', 'minimum', '-o', 'part'), held('part.000')),
+         ((0, 'part.000\n', ''), '$TTL 0\na. 0 IN SOA b. c. 1 2 3 4 4294967295\n'))
     os.remove('part.000')
     same('nothing is written', parts(), [])
-    same('standard input', run('cut', '2', '-', '-o', 'part', given=b'a. 60 A 192.0.2.1\n'),
-         (3, b'', 'zonetext: -: not a regular file\n'))
-    same('a folder', run('cut', '2', '.', '-o', 'part'), (3, b'', 'zonetext: .: not a regular file\n'))
-    put('given', b'; none\n')
-    same('no records', (run('cut', '2', 'given', '-o', 'part'), parts()), ((0, b'', ''), []))
-    put('given', b'a. 60 TXT x')
-    same('another class', run('cut', '2', '--class', 'CH', 'given', '-o', 'part'), (0, b'part.000\n', ''))
-    same('is said', get('part.000'), b'a. 60 CH TXT "x"\n')
+    same('standard input', run('cut', '2', '-', '-o', 'part', given='a. 60 A 192.0.2.1\n'),
+         (3, '', 'zonetext: -: not a regular file\n'))
+    same('a folder', run('cut', '2', '.', '-o', 'part'), (3, '', 'zonetext: .: not a regular file\n'))
+    put('given', '; none\n')
+    same('no records', (run('cut', '2', 'given', '-o', 'part'), parts()), ((0, '', ''), []))
+    put('given', 'a. 60 TXT x')
+    same('another class', run('cut', '2', '--class', 'CH', 'given', '-o', 'part'), (0, 'part.000\n', ''))
+    same('is said', held('part.000'), 'a. 60 CH TXT "x"\n')
     clear()
     there = run('cut', '2', 'zone', '--zone', 'example', '-o', 'absent/part')
-    same('no such folder', (there[:2], 'absent/part.000' in there[2], there[2].endswith(NOTHING)), ((3, b''), True, True))
+    same('no such folder', (there[:2], 'absent/part.000' in there[2], there[2].endswith(NOTHING)), ((3, ''), True, True))
     for words in (['cut', '0', 'zone', '-o', 'part'], ['cut', 'x', 'zone', '-o', 'part'], ['cut', '2', 'zone'],
-                  ['cut', '2', '--class', 'x', 'zone', '-o', 'part'], ['cut', '2', '--zone', 'a..b', 'zone', '-o', 'part']):
-        same('usage', run(*words)[:2], (2, b''))
-    same('an absent file', run('cut', '2', 'absent', '-o', 'part')[:2], (3, b''))
-    put('given', b''.join(b'h%d. 60 A 192.0.2.1\n' % number for number in range(100 if SANITIZED else 1500)))
+                  ['cut', '2', '--class', 'x', 'zone', '-o', 'part'], ['cut', '2', '--zone', 'a..', 'zone', '-o', 'part']):
+        same('usage', run(*words)[:2], (2, ''))
+    same('an absent file', run('cut', '2', 'absent', '-o', 'part')[:2], (3, ''))
+    put('given', ''.join('h%d. 60 A 192.0.2.1\n' % number for number in range(100 if SANITIZED else 1500)))
     same('many parts', (run('cut', '1200', 'given', '-o', 'part')[0], parts()[0], len(parts()[-1])), (0, 'part.0000', 9))
     clear()
 

@@ -15,7 +15,11 @@ import stat
 import subprocess
 import sys
 import tempfile
+from functools import partial
 from urllib.parse import unquote_to_bytes
+
+sys.dont_write_bytecode = True
+from check_support import HERE, counts, held, program_of, put, run as ran, same
 
 try:
     import dns.zone
@@ -23,39 +27,16 @@ try:
 except ImportError:
     dns = None
 
-HERE = os.path.dirname(os.path.abspath(__file__))
-PROGRAM = os.path.abspath(sys.argv[1] if len(sys.argv) > 1 else f'{HERE}/out/zonetext')
+PROGRAM = program_of(sys.argv[1:])
+run = partial(ran, PROGRAM)
 SEED = int(sys.argv[2]) if len(sys.argv) > 2 else 1
 SIGNER = 'ldns-signzone'
 VERIFIER = 'ldns-verify-zone'
 ROUNDS = 25
-counts = {'rows': 0, 'wrong': 0}
-
-
-def run(*words, given=''):
-    ran = subprocess.run([PROGRAM, *words], input=given.encode('latin-1'), stdout=subprocess.PIPE, stderr=subprocess.PIPE)
-    return ran.returncode, ran.stdout.decode('latin-1'), ran.stderr.decode('latin-1')
 
 
 def write(*words):
     return run('digest', '--write', '--zone', 'example.', *words)
-
-
-def same(title, got, wanted):
-    counts['rows'] += 1
-    if got != wanted:
-        counts['wrong'] += 1
-        print(f'differs: {title}\n  got    {got!r:.2000}\n  wanted {wanted!r:.2000}')
-
-
-def put(name, text):
-    with open(name, 'wb') as file:
-        file.write(text.encode('latin-1'))
-
-
-def held(name):
-    with open(name, 'rb') as file:
-        return file.read().decode('latin-1')
 
 
 def becomes(title, old, new, told, status=0, words=(), said=''):
@@ -297,9 +278,7 @@ def closed_folder(whole):
     os.chmod('.', 0o755)
     shutil.copy(PROGRAM, 'program')
     other = {} if os.geteuid() else {'user': 65534, 'group': 65534, 'extra_groups': []}
-    words = ['./program', 'digest', '--write', '--zone', 'example.', 'closed/zone']
-    ran = subprocess.run(words, stdout=subprocess.PIPE, stderr=subprocess.PIPE, universal_newlines=True, **other)
-    same('a closed folder', (ran.returncode, ran.stdout, ran.stderr),
+    same('a closed folder', ran('./program', 'digest', '--write', '--zone', 'example.', 'closed/zone', **other),
          (3, '', 'zonetext: closed/zone: Permission denied (os error 13)\n' + NOTHING))
     same('a closed folder: the file', held('closed/zone'), whole)
     same('a closed folder: nothing is left', os.listdir('closed'), ['zone'])
@@ -397,8 +376,6 @@ def random_rows(digests_of, title):
 
 
 def main():
-    if not os.access(PROGRAM, os.X_OK):
-        sys.exit(f'no program {PROGRAM}: rt run, in crates/zonetext, builds it')
     with tempfile.TemporaryDirectory() as scratch:
         os.chdir(scratch)
         example_rows()

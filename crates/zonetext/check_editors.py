@@ -16,15 +16,15 @@ import subprocess
 import sys
 import tempfile
 
-HERE = os.path.dirname(os.path.realpath(__file__))
+sys.dont_write_bytecode = True
+from check_support import HERE, counts, held, program_of, put, same
+
 TOP = os.path.dirname(os.path.dirname(HERE))
-PROGRAM = os.path.abspath(os.environ.get('zonetext') or HERE + '/out/zonetext')
+PROGRAM = program_of([os.environ['zonetext']] if os.environ.get('zonetext') else [])
 GOOD = '@ 1h SOA ns h 1 2h 30m 2w 1h\n@ NS ns\n@ NS ns.o.\nns A 192.0.2.1\n'
 BAD = GOOD + '@ MX 10 mial\nw A 192.0.2.256\nmail A 192.0.2.3\n'
 # Time limit of a command.
 SECONDS = 600
-DIFFER = []
-COUNT = 0
 if sys.argv[1:2] == ['--installed']:
     SHARE = os.path.abspath(sys.argv[2])
     COMPILERS, EXAMPLES = SHARE + '/vim/vimfiles', SHARE + '/doc/zonetext/examples'
@@ -32,24 +32,6 @@ if sys.argv[1:2] == ['--installed']:
 else:
     COMPILERS, EXAMPLES = None, HERE + '/integration'
     PAGE, HOOKS = TOP + '/docs/ZONETEXT.md', TOP + '/.pre-commit-hooks.yaml'
-
-
-def expect(what, found, wanted):
-    """Counts a case, and reports it if it differs."""
-    global COUNT
-    COUNT += 1
-    if found != wanted:
-        DIFFER.append(f'{what}: {found!r}, wanted {wanted!r}')
-
-
-def read(path):
-    with open(path, encoding='utf-8') as file:
-        return file.read()
-
-
-def write(path, text):
-    with open(path, 'w', encoding='utf-8') as file:
-        file.write(text)
 
 
 def run(words, folder, stdin=''):
@@ -69,12 +51,12 @@ def formatted(folder, text):
 
 def page_blocks():
     """Returns the fenced blocks of the page."""
-    return re.findall(r'^```text\n(.*?)^```$', read(PAGE), re.M | re.S)
+    return re.findall(r'^```text\n(.*?)^```$', held(PAGE), re.M | re.S)
 
 
 def block_with(words):
     found = [block for block in page_blocks() if words in block]
-    expect(f'{PAGE}: blocks with {words}', len(found), 1)
+    same(f'{PAGE}: blocks with {words}', len(found), 1)
     return found[0] if found else ''
 
 
@@ -103,21 +85,21 @@ def vim(folder):
         shutil.copy(EXAMPLES + '/zonetext.vim', files + '/compiler/')
     os.mkdir(f"{folder}/peter's zones")
     name = "peter's zones/example.zone"
-    write(f'{folder}/{name}', BAD)
-    write(f'{folder}/script', VIM % f'set runtimepath^={files}')
+    put(f'{folder}/{name}', BAD)
+    put(f'{folder}/script', VIM % f'set runtimepath^={files}')
     run(['vim', '-es', '-N', '-u', 'NONE', '-i', 'NONE', '-S', 'script', name], folder)
-    found = read(f'{folder}/list').split('\n')[:-1] if os.path.exists(f'{folder}/list') else []
+    found = held(f'{folder}/list').split('\n')[:-1] if os.path.exists(f'{folder}/list') else []
     # (a line end in a text is written as NUL)
-    expect('vim :make', [it.replace('\0', '|') for it in found], [
+    same('vim :make', [it.replace('\0', '|') for it in found], [
         f'{name}|5|9|W|example. MX: MX target mial.example. has no address in the zone [target-missing]|'
         'did you mean mail.example.?',
         f"{name}|6|5|E|w A: address: expected IPv4 address '192.0.2.256' [data]"])
-    expect('vim :make with an option', read(f'{folder}/fewer').strip(), '1')
-    expect('vim =', read(f'{folder}/{name}'), formatted(folder, BAD))
-    write(f'{folder}/a.zone', GOOD)
-    write(f'{folder}/script', block_with('autocmd BufWritePost') + 'edit a.zone\nnormal Go; end\nwrite\nqa!\n')
+    same('vim :make with an option', held(f'{folder}/fewer').strip(), '1')
+    same('vim =', held(f'{folder}/{name}'), formatted(folder, BAD))
+    put(f'{folder}/a.zone', GOOD)
+    put(f'{folder}/script', block_with('autocmd BufWritePost') + 'edit a.zone\nnormal Go; end\nwrite\nqa!\n')
     run(['vim', '-es', '-N', '-u', 'NONE', '-i', 'NONE', '-S', 'script'], folder)
-    expect('vim :write', read(f'{folder}/a.zone'), formatted(folder, GOOD + '; end\n'))
+    same('vim :write', held(f'{folder}/a.zone'), formatted(folder, GOOD + '; end\n'))
     return None
 
 
@@ -125,13 +107,13 @@ def emacs(folder):
     lines = block_with("(add-hook 'after-save-hook")
     if not shutil.which('emacs'):
         return print('editors: no emacs: left out')
-    write(f'{folder}/a.zone', GOOD)
+    put(f'{folder}/a.zone', GOOD)
     # (by default its dns-mode increases the serial on each save)
-    write(f'{folder}/script.el', lines + '(setq dns-mode-soa-auto-increment-serial nil) (find-file "a.zone")'
+    put(f'{folder}/script.el', lines + '(setq dns-mode-soa-auto-increment-serial nil) (find-file "a.zone")'
           ' (goto-char (point-max)) (insert "; end\\n") (save-buffer) (write-region nil nil "buffer")')
     run(['emacs', '-Q', '--batch', '-l', 'script.el'], folder)
     for file in 'a.zone', 'buffer':
-        expect(f'emacs, {file}', read(f'{folder}/{file}'), formatted(folder, GOOD + '; end\n'))
+        same(f'emacs, {file}', held(f'{folder}/{file}'), formatted(folder, GOOD + '; end\n'))
     return None
 
 
@@ -140,20 +122,20 @@ def vs_code(folder):
     settings = json.loads('{' + block_with('emeraldwalk.runonsave') + '}')
     (command,) = settings['emeraldwalk.runonsave']['commands']
     name = f'{folder}/a.zone'
-    write(name, GOOD)
-    expect('VS Code, match', bool(re.search(command['match'], name)), True)
-    expect('VS Code, status', run(['sh', '-c', command['cmd'].replace('${file}', name)], folder), (0, ''))
-    expect('VS Code, file', read(name), formatted(folder, GOOD))
+    put(name, GOOD)
+    same('VS Code, match', bool(re.search(command['match'], name)), True)
+    same('VS Code, status', run(['sh', '-c', command['cmd'].replace('${file}', name)], folder), (0, ''))
+    same('VS Code, file', held(name), formatted(folder, GOOD))
 
 
 def repository(folder):
     """Makes a git repository with one commit of a good zone, formatted."""
     shutil.rmtree(f'{folder}/.git', ignore_errors=True)
     os.makedirs(folder + '/zones', exist_ok=True)
-    write(f'{folder}/zones/a.zone', formatted(folder, GOOD + '$INCLUDE hosts\n'))
-    write(f'{folder}/zones/hosts', 'w A 192.0.2.4\n')
+    put(f'{folder}/zones/a.zone', formatted(folder, GOOD + '$INCLUDE hosts\n'))
+    put(f'{folder}/zones/hosts', 'w A 192.0.2.4\n')
     for words in ['init', '-q'], ['add', 'zones'], ['commit', '-q', '-m', 'a']:
-        expect(f'git {words[0]}', run(['git', *words], folder), (0, ''))
+        same(f'git {words[0]}', run(['git', *words], folder), (0, ''))
 
 
 def git_hook(folder):
@@ -162,29 +144,29 @@ def git_hook(folder):
 
     def commit(what, wanted, words=''):
         status, said = run(['git', 'commit', '-q', '-m', 'b'], folder)
-        expect(f'git hook, {what}', (status, words in said), (wanted, True))
+        same(f'git hook, {what}', (status, words in said), (wanted, True))
 
     good, hosts = f'{folder}/zones/a.zone', f'{folder}/zones/hosts'
-    write(good, read(good) + '; one\n')
+    put(good, held(good) + '; one\n')
     run(['git', 'add', 'zones'], folder)
-    write(good, read(good) + 'x A 192.0.2.256\n')
-    write(hosts, 'w A 192.0.2.256\n')
+    put(good, held(good) + 'x A 192.0.2.256\n')
+    put(hosts, 'w A 192.0.2.256\n')
     commit('errors that are not staged', 0)
     run(['git', 'add', 'zones'], folder)
-    write(hosts, 'w A 192.0.2.4\n')
+    put(hosts, 'w A 192.0.2.4\n')
     commit('errors that are staged', 1, 'zones/hosts:1:5: error: w A')
-    write(good, formatted(folder, read(good).replace('256', '5')))
+    put(good, formatted(folder, held(good).replace('256', '5')))
     run(['git', 'add', 'zones'], folder)
     commit('no error', 0)
-    write(good, read(good) + 'y A   192.0.2.6\n')
+    put(good, held(good) + 'y A   192.0.2.6\n')
     run(['git', 'add', 'zones'], folder)
     commit('another layout', 1, '+y ')
-    write(f'{folder}/zones/a b.zone', formatted(folder, GOOD + 'u_v A 192.0.2.7\n'))
-    write(f'{folder}/.zonetext.toml', 'deny = ["host-name"]\n')
+    put(f'{folder}/zones/a b.zone', formatted(folder, GOOD + 'u_v A 192.0.2.7\n'))
+    put(f'{folder}/.zonetext.toml', 'deny = ["host-name"]\n')
     run(['git', 'reset', '-q', '--hard'], folder)
     run(['git', 'add', 'zones', '.zonetext.toml'], folder)
     commit('settings that are staged', 1, 'host-name')
-    write(f'{folder}/.zonetext.toml', 'allow = ["host-name"]\n')
+    put(f'{folder}/.zonetext.toml', 'allow = ["host-name"]\n')
     run(['git', 'add', '.zonetext.toml'], folder)
     commit('a name with a blank', 0)
     os.remove(f'{folder}/.zonetext.toml')
@@ -192,45 +174,45 @@ def git_hook(folder):
 
 def pre_commit(folder, yaml):
     """Runs the hooks as pre-commit does: the entry, and the names of the staged files that fit."""
-    hooks = {hook['id']: hook for hook in yaml.safe_load(read(HOOKS))}
-    config = yaml.safe_load(read(EXAMPLES + '/pre-commit-config.yaml'))
+    hooks = {hook['id']: hook for hook in yaml.safe_load(held(HOOKS))}
+    config = yaml.safe_load(held(EXAMPLES + '/pre-commit-config.yaml'))
     keys = 'name', 'entry', 'language', 'files'
-    expect('the two files of hooks', {hook['id']: [hook[key] for key in keys] for hook in config['repos'][0]['hooks']},
+    same('the two files of hooks', {hook['id']: [hook[key] for key in keys] for hook in config['repos'][0]['hooks']},
            {name: [hook[key] for key in keys] for name, hook in hooks.items()})
-    write(f'{folder}/a.zone', BAD)
-    write(f'{folder}/a.txt', 'no zone')
+    put(f'{folder}/a.zone', BAD)
+    put(f'{folder}/a.txt', 'no zone')
     for name, status in ('zonetext-check', 1), ('zonetext-fmt', 0):
         files = [file for file in ['a.zone', 'a.txt'] if re.search(hooks[name]['files'], file)]
-        expect(f'{name}, files', files, ['a.zone'])
-        expect(f'{name}, status', run(hooks[name]['entry'].split() + files, folder)[0], status)
-    expect('zonetext-fmt', read(f'{folder}/a.zone'), formatted(folder, BAD))
+        same(f'{name}, files', files, ['a.zone'])
+        same(f'{name}, status', run(hooks[name]['entry'].split() + files, folder)[0], status)
+    same('zonetext-fmt', held(f'{folder}/a.zone'), formatted(folder, BAD))
     if not shutil.which('pre-commit'):
         return print('editors: no pre-commit: left out')
     for words in ['validate-manifest', HOOKS], ['validate-config', EXAMPLES + '/pre-commit-config.yaml']:
-        expect(' '.join(words), run(['pre-commit', *words], folder), (0, ''))
+        same(' '.join(words), run(['pre-commit', *words], folder), (0, ''))
     repository(folder)
     shutil.copy(EXAMPLES + '/pre-commit-config.yaml', f'{folder}/.pre-commit-config.yaml')
-    write(f'{folder}/zones/a.zone', BAD)
+    put(f'{folder}/zones/a.zone', BAD)
     run(['git', 'add', '-A', 'zones', '.pre-commit-config.yaml'], folder)
-    write(f'{folder}/zones/a.zone', GOOD)
+    put(f'{folder}/zones/a.zone', GOOD)
     status, said = run(['pre-commit', 'run'], folder)
-    expect('pre-commit run', (status, 'zones/a.zone:6:5: error' in said), (1, True))
+    same('pre-commit run', (status, 'zones/a.zone:6:5: error' in said), (1, True))
     return None
 
 
 def workflow(folder, yaml):
     """Runs the steps Check and Format of the workflow; Install needs a release."""
-    steps = yaml.safe_load(read(EXAMPLES + '/github-actions.yml'))['jobs']['zones']['steps']
+    steps = yaml.safe_load(held(EXAMPLES + '/github-actions.yml'))['jobs']['zones']['steps']
     commands = {step.get('name'): step.get('run') for step in steps}
     repository(folder)
     status, said = run(['bash', '-e', '-c', commands['Check']], folder)
-    expect('workflow, a good zone', (status, said), (0, ''))
-    expect('workflow, its layout', run(['bash', '-e', '-c', commands['Format']], folder)[0], 0)
-    write(f'{folder}/zones/b.zone', BAD)
+    same('workflow, a good zone', (status, said), (0, ''))
+    same('workflow, its layout', run(['bash', '-e', '-c', commands['Format']], folder)[0], 0)
+    put(f'{folder}/zones/b.zone', BAD)
     run(['git', 'add', 'zones'], folder)
     status, said = run(['bash', '-e', '-c', commands['Check']], folder)
-    expect('workflow, an error', (status != 0, '::error file=zones/b.zone,line=6' in said), (True, True))
-    expect('workflow, another layout', run(['bash', '-e', '-c', commands['Format']], folder)[0] != 0, True)
+    same('workflow, an error', (status != 0, '::error file=zones/b.zone,line=6' in said), (True, True))
+    same('workflow, another layout', run(['bash', '-e', '-c', commands['Format']], folder)[0] != 0, True)
 
 
 def main():
@@ -251,10 +233,8 @@ def main():
             os.mkdir(f'{folder}/bin')
             os.symlink(PROGRAM, f'{folder}/bin/zonetext')
             case(folder)
-    for line in DIFFER:
-        print('editors: ' + line)
-    print(f'editors: {COUNT} cases, {len(DIFFER)} differ')
-    return 1 if DIFFER else 0
+    print(f"editors: {counts['rows']} cases, {counts['wrong']} differ")
+    return 1 if counts['wrong'] else 0
 
 
 if __name__ == '__main__':

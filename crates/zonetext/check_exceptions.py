@@ -10,7 +10,9 @@ import subprocess
 import sys
 import tempfile
 
-HERE = os.path.dirname(os.path.abspath(__file__))
+sys.dont_write_bytecode = True
+from check_support import counts, program_of, put, same
+
 FRONT = "$ORIGIN example.\n@ 60 SOA ns h 1 4 2 9 5\n@ NS ns\n@ NS ns.o.\nns A 192.0.2.1\n"
 ZONE = ["--zone", "example."]
 # The lines of a zone file after FRONT, the options, and the findings: number of the line among these, column, severity,
@@ -93,21 +95,6 @@ MALFORMED = [
     ('max-ttl = "1x"\n', "max-ttl: wants a time in seconds, or as \"7d\" or \"12h30m\""),
     ("include = [\n", "line 2, column 1: "),
 ]
-wrong = []
-count = 0
-
-
-def expect(what, got, wanted):
-    global count
-    count += 1
-    if got != wanted:
-        wrong.append(f"{what!r}\n  has    {got!r}\n  wanted {wanted!r}")
-
-
-def write(path, text):
-    os.makedirs(os.path.dirname(path), exist_ok=True)
-    with open(path, "w", encoding="utf-8") as out:
-        out.write(text)
 
 
 def run(program, words, folder):
@@ -125,10 +112,10 @@ def findings(done):
 
 
 def main():
-    program = os.path.abspath(sys.argv[1] if len(sys.argv) > 1 else f"{HERE}/out/zonetext")
+    program = program_of(sys.argv[1:])
     with tempfile.TemporaryDirectory() as top:
         for number, (lines, options, wanted) in enumerate(COMMENTS):
-            write(f"{top}/{number}.zone", FRONT + lines + "\n")
+            put(f"{top}/{number}.zone", FRONT + lines + "\n")
             for words in [f"{number}.zone"], ["-"]:
                 if words == ["-"]:
                     with open(f"{top}/{number}.zone", "rb") as text:
@@ -137,49 +124,47 @@ def main():
                 else:
                     done = run(program, [*options, *words], top)
                 found = findings(done)
-                expect((lines, options, words), [row[:4] for row in found], [row[:4] for row in wanted])
+                same((lines, options, words), [row[:4] for row in found], [row[:4] for row in wanted])
                 for row, (*_, word) in zip(found, wanted):
                     if word is not None:
-                        expect((lines, word), f"'{word}' [" in row[4] or f"'{word}' at" in row[4], True)
+                        same((lines, word), f"'{word}' [" in row[4] or f"'{word}' at" in row[4], True)
                 is_error = any(row[2] == "error" for row in wanted)
-                expect((lines, options, "status"), done.returncode, 1 if is_error else 0)
+                same((lines, options, "status"), done.returncode, 1 if is_error else 0)
         folder = f"{top}/set/zones"
-        write(f"{top}/set/shared/sub.db", "s A 192.0.2.9\n")
+        put(f"{top}/set/shared/sub.db", "s A 192.0.2.9\n")
         for text, options, lines, wanted in SETTINGS:
-            write(f"{folder}/a.zone", FRONT + lines + "\n")
-            write(f"{folder}/.zonetext.toml", text)
+            put(f"{folder}/a.zone", FRONT + lines + "\n")
+            put(f"{folder}/.zonetext.toml", text)
             for place, words in ((folder, ["a.zone"]), (top, ["set/zones/a.zone"])):
                 done = run(program, [*options, *words], place)
-                expect((text, options, lines), [row[3] for row in findings(done)], wanted)
+                same((text, options, lines), [row[3] for row in findings(done)], wanted)
         for text, message in MALFORMED:
-            write(f"{folder}/a.zone", FRONT)
-            write(f"{folder}/.zonetext.toml", text)
+            put(f"{folder}/a.zone", FRONT)
+            put(f"{folder}/.zonetext.toml", text)
             done = run(program, ["a.zone"], folder)
-            expect((text, "status"), done.returncode, 2)
+            same((text, "status"), done.returncode, 2)
             wanted = f"zonetext: {os.path.realpath(folder)}/.zonetext.toml: {message}"
-            expect(text, done.stderr[:len(wanted)], wanted)
+            same(text, done.stderr[:len(wanted)], wanted)
         # the nearest settings, up to the nearest folder with .git
         for has_git, place, wanted in ((False, "", []), (False, "deep/", ["target-missing"]), (True, "deep/", []),
                                        (True, "deep/own/", ["target-missing"])):
             root = f"{top}/tree{int(has_git)}"
-            write(f"{root}/.zonetext.toml", 'allow = ["target-missing"]\n')
+            put(f"{root}/.zonetext.toml", 'allow = ["target-missing"]\n')
             if has_git:
-                write(f"{root}/.git/HEAD", "")
-            write(f"{root}/deep/own/.zonetext.toml", "")
-            write(f"{root}/{place}a.zone", FRONT + "a MX 10 mial\n")
+                put(f"{root}/.git/HEAD", "")
+            put(f"{root}/deep/own/.zonetext.toml", "")
+            put(f"{root}/{place}a.zone", FRONT + "a MX 10 mial\n")
             done = run(program, [*ZONE, f"{root}/{place}a.zone"], top)
-            expect((has_git, place), [row[3] for row in findings(done)], wanted)
+            same((has_git, place), [row[3] for row in findings(done)], wanted)
         # above the nearest .git nothing is looked for
-        write(f"{top}/outer/.zonetext.toml", 'allow = ["target-missing"]\n')
-        write(f"{top}/outer/.git/HEAD", "")
-        write(f"{top}/outer/inner/.git/HEAD", "")
-        write(f"{top}/outer/inner/a.zone", FRONT + "a MX 10 mial\n")
+        put(f"{top}/outer/.zonetext.toml", 'allow = ["target-missing"]\n')
+        put(f"{top}/outer/.git/HEAD", "")
+        put(f"{top}/outer/inner/.git/HEAD", "")
+        put(f"{top}/outer/inner/a.zone", FRONT + "a MX 10 mial\n")
         done = run(program, [*ZONE, "outer/inner/a.zone"], top)
-        expect("inner", [row[3] for row in findings(done)], ["target-missing"])
-    for text in wrong:
-        print(text)
-    print(f"{count} comparisons, {len(wrong)} differ")
-    return 1 if wrong else 0
+        same("inner", [row[3] for row in findings(done)], ["target-missing"])
+    print(f"{counts['rows']} comparisons, {counts['wrong']} differ")
+    return 1 if counts["wrong"] else 0
 
 
 sys.exit(main())

@@ -9,14 +9,16 @@ usage: crates/zonetext/check_formats.py [PROGRAM]
 import json
 import os
 import re
-import subprocess
 import sys
 import tempfile
+from functools import partial
 from urllib.parse import unquote
 from xml.etree import ElementTree
 from xml.sax.saxutils import escape
 
-HERE = os.path.dirname(os.path.abspath(__file__))
+sys.dont_write_bytecode = True
+from check_support import counts, program_of, run as ran, same
+
 FRONT = b"@ 60 SOA ns h 1 4 2 9 5\n@ NS ns\n@ NS ns.o.\nns A 192.0.2.1\n"
 FORMATS = ["json", "github", "sarif", "checkstyle"]
 MEMBERS = ["file", "line", "column", "end_column", "opened_line", "opened_column", "severity", "code", "owner", "type",
@@ -36,21 +38,8 @@ ZONES = [
 ]
 # Numbers of the types of the zone that is printed as records.
 NUMBERS = {"SOA": 6, "NS": 2, "A": 1, "TXT": 16, "CAA": 257}
-wrong = []
-count = 0
-
-
-def expect(what, has, wanted):
-    global count
-    count += 1
-    if has != wanted:
-        wrong.append(what)
-        print(f"differs: {what}\n  wanted {wanted!r}\n  found  {has!r}")
-
-
-def run(program, *words, octets=b"", cwd=None):
-    ran = subprocess.run([program, *words], input=octets, capture_output=True, check=False, cwd=cwd)
-    return ran.returncode, ran.stdout.decode(), ran.stderr.decode(errors="replace")
+# (names and texts have characters that are not in Latin-1)
+run = partial(ran, encoding="utf-8")
 
 
 def check(program, folder, form, names, *words):
@@ -72,8 +61,8 @@ def key(finding):
 def json_findings(text):
     findings = [json.loads(line) for line in text.splitlines()]
     for finding in findings:
-        expect("members", list(finding), [name for name in MEMBERS if name in finding])
-    expect("lines of JSON", text, "".join(line_of_json(finding) for finding in findings))
+        same("members", list(finding), [name for name in MEMBERS if name in finding])
+    same("lines of JSON", text, "".join(line_of_json(finding) for finding in findings))
     return findings
 
 
@@ -92,46 +81,46 @@ def github_findings(text, findings):
     wanted = "".join(
         f"::{it['severity']} file={escaped(it['file'], True)},line={it['line']},col={it['column']},"
         f"endColumn={it['end_column']},title={escaped(it['code'], True)}::{escaped(whole(it))}\n" for it in findings)
-    expect("github", text, wanted)
+    same("github", text, wanted)
     for line in text.splitlines():
         found = re.fullmatch(r"::(error|warning) ((?:\w+=[^,:]*,?)+)::([^\r\n]*)", line)
-        expect("command of GitHub", bool(found), True)
+        same("command of GitHub", bool(found), True)
 
 
 def sarif_findings(text, findings, codes):
     log = json.loads(text)
-    expect("SARIF: log", (log["version"], sorted(log), len(log["runs"])), ("2.1.0", ["$schema", "runs", "version"], 1))
+    same("SARIF: log", (log["version"], sorted(log), len(log["runs"])), ("2.1.0", ["$schema", "runs", "version"], 1))
     one = log["runs"][0]
     driver = one["tool"]["driver"]
-    expect("SARIF: driver", (driver["name"], bool(re.fullmatch(r"\d+\.\d+\.\d+", driver["version"]))), ("zonetext", True))
+    same("SARIF: driver", (driver["name"], bool(re.fullmatch(r"\d+\.\d+\.\d+", driver["version"]))), ("zonetext", True))
     rules = driver["rules"]
-    expect("SARIF: rules", [(rule["id"], rule["defaultConfiguration"]["level"]) for rule in rules], codes)
+    same("SARIF: rules", [(rule["id"], rule["defaultConfiguration"]["level"]) for rule in rules], codes)
     for rule in rules:
-        expect("SARIF: texts of a rule", all(rule[it]["text"] for it in ("shortDescription", "fullDescription")), True)
+        same("SARIF: texts of a rule", all(rule[it]["text"] for it in ("shortDescription", "fullDescription")), True)
     found = []
     for result in one["results"]:
-        expect("SARIF: result", sorted(result), ["level", "locations", "message", "ruleId"])
+        same("SARIF: result", sorted(result), ["level", "locations", "message", "ruleId"])
         place = result["locations"][0]["physicalLocation"]
         region, uri = place["region"], place["artifactLocation"]["uri"]
-        expect("SARIF: URI", bool(re.fullmatch(r"[A-Za-z0-9._~/%-]+", uri)), True)
-        expect("SARIF: region", region["startLine"] >= 1 and region["startColumn"] >= 1 and region["endColumn"] >= 1, True)
+        same("SARIF: URI", bool(re.fullmatch(r"[A-Za-z0-9._~/%-]+", uri)), True)
+        same("SARIF: region", region["startLine"] >= 1 and region["startColumn"] >= 1 and region["endColumn"] >= 1, True)
         found.append((unquote(uri), region["startLine"], region["startColumn"], result["level"], result["ruleId"],
                       result["message"]["text"]))
-    expect("SARIF: findings", found, [key(finding) for finding in findings])
+    same("SARIF: findings", found, [key(finding) for finding in findings])
 
 
 def checkstyle_findings(text, findings):
     top = ElementTree.fromstring(text.encode())
-    expect("Checkstyle: root", (top.tag, top.get("version")), ("checkstyle", "4.3"))
+    same("Checkstyle: root", (top.tag, top.get("version")), ("checkstyle", "4.3"))
     found = []
     for file in top:
-        expect("Checkstyle: file", (file.tag, list(file.attrib)), ("file", ["name"]))
+        same("Checkstyle: file", (file.tag, list(file.attrib)), ("file", ["name"]))
         for error in file:
-            expect("Checkstyle: error", (error.tag, list(error.attrib)),
+            same("Checkstyle: error", (error.tag, list(error.attrib)),
                    ("error", ["line", "column", "severity", "message", "source"]))
             found.append((file.get("name"), int(error.get("line")), int(error.get("column")), error.get("severity"),
                           error.get("source"), error.get("message")))
-    expect("Checkstyle: findings", found, [key(finding) for finding in findings])
+    same("Checkstyle: findings", found, [key(finding) for finding in findings])
     wanted, before = '<?xml version="1.0" encoding="UTF-8"?>\n<checkstyle version="4.3">\n', None
     for it in findings:
         if it["file"] != before:
@@ -139,7 +128,7 @@ def checkstyle_findings(text, findings):
         before = it["file"]
         wanted += (f'<error line="{it["line"]}" column="{it["column"]}" severity="{it["severity"]}" '
                    f'message={attribute(whole(it))} source={attribute(it["code"])}/>\n')
-    expect("Checkstyle: text", text, wanted + ("</file>\n" if before is not None else "") + "</checkstyle>\n")
+    same("Checkstyle: text", text, wanted + ("</file>\n" if before is not None else "") + "</checkstyle>\n")
 
 
 def attribute(text):
@@ -150,42 +139,42 @@ def compare(program, folder, codes, names, status, wanted):
     """Compares all formats for files, and the findings with those that are wanted."""
     results = {form: check(program, folder, form, names) for form in FORMATS}
     for form in FORMATS:
-        expect(f"status, {form}, {names}", results[form][0], status)
+        same(f"status, {form}, {names}", results[form][0], status)
     findings = json_findings(results["json"][1])
-    expect(f"findings, {names}", sorted((it["line"], it["code"]) for it in findings), sorted(wanted))
+    same(f"findings, {names}", sorted((it["line"], it["code"]) for it in findings), sorted(wanted))
     github_findings(results["github"][1], findings)
     sarif_findings(results["sarif"][1], findings, codes)
     checkstyle_findings(results["checkstyle"][1], findings)
     old = run(program, "check", "--zone", "example.", "--json", *names, cwd=folder)
-    expect(f"--json, {names}", old, results["json"])
+    same(f"--json, {names}", old, results["json"])
     plain = run(program, "check", "--zone", "example.", "--max", "0", *names, cwd=folder)
-    expect(f"--format text, {names}", check(program, folder, "text", names, "--max", "0"), plain)
+    same(f"--format text, {names}", check(program, folder, "text", names, "--max", "0"), plain)
     return findings
 
 
 def check_options(program, folder):
     """The options of `check` around its formats."""
     status, out, err = check(program, folder, "x", ["good.zone"])
-    expect("--format x", (status, out, "'x'" in err and "--format" in err), (2, "", True))
+    same("--format x", (status, out, "'x'" in err and "--format" in err), (2, "", True))
     status, out, err = check(program, folder, "json", ["two.zone"], "--max", "1")
-    expect("--max 1", (len(out.splitlines()), "2 not shown" in err), (1, True))
+    same("--max 1", (len(out.splitlines()), "2 not shown" in err), (1, True))
     for form in FORMATS:
         status, out, err = run(program, "check", "--zone", "example.", "--format", form, "--stdin-name", "a b.zone", "-",
-                               octets=FRONT + b"a A x\n")
+                               given=FRONT.decode() + "a A x\n")
         name = "a%20b.zone" if form == "sarif" else "a b.zone"
-        expect(f"--stdin-name, {form}", (status, name in out), (1, True))
+        same(f"--stdin-name, {form}", (status, name in out), (1, True))
         status, out, err = check(program, folder, form, ["missing.zone", "data.zone"])
-        expect(f"missing file, {form}", (status, "missing.zone" in err, "data" in out), (3, True, True))
+        same(f"missing file, {form}", (status, "missing.zone" in err, "data" in out), (3, True, True))
         if form == "sarif":
             json.loads(out)
         if form == "checkstyle":
             ElementTree.fromstring(out.encode())
         status, out, err = run(program, "check", "--text", "--format", form, "line\nend\r.zone", cwd=folder)
-        expect(f"--text, {form}", (status, "open-quote" in out, err), (1, True, ""))
+        same(f"--text, {form}", (status, "open-quote" in out, err), (1, True, ""))
     status, out, err = run(program, "check", "--zone", "example.", "data.zone", "two.zone", "good.zone", cwd=folder)
-    expect("number of files", err.splitlines()[-1], "3 files: 2 errors, 2 warnings")
-    expect("one file", "files" in run(program, "check", "data.zone", cwd=folder)[2], False)
-    expect("nothing found", run(program, "check", "--zone", "example.", "good.zone", "good.zone", cwd=folder), (0, "", ""))
+    same("number of files", err.splitlines()[-1], "3 files: 2 errors, 2 warnings")
+    same("one file", "files" in run(program, "check", "data.zone", cwd=folder)[2], False)
+    same("nothing found", run(program, "check", "--zone", "example.", "good.zone", "good.zone", cwd=folder), (0, "", ""))
 
 
 def parted(lines, change=False):
@@ -214,7 +203,7 @@ def check_records(program, folder):
     plain = run(program, "records", "--zone", "example.", "zone", cwd=folder)
     status, out, err = run(program, "records", "--zone", "example.", "--json", "zone", cwd=folder)
     wanted = [{**it, "file": "zone", "line": line} for line, it in enumerate(parted(plain[1].splitlines()), 1)]
-    expect("records --json", (status, objects(out), err), (0, wanted, ""))
+    same("records --json", (status, objects(out), err), (0, wanted, ""))
     lines = {(it["owner"], it["type"]): it["line"] for it in wanted}
     for words in [], ["--wire"], ["--keep-order"], ["--memory", "1M"]:
         plain = run(program, "canon", "--zone", "example.", *words, "zone", cwd=folder)
@@ -225,7 +214,7 @@ def check_records(program, folder):
             own = lines if "--wire" not in words else {(owner, f"TYPE{NUMBERS[rtype]}"): line
                                                        for (owner, rtype), line in lines.items()}
             wanted = [{**it, "file": "zone", "line": own[it["owner"], it["type"]]} for it in wanted]
-        expect(f"canon --json {words}", (status, objects(out), err), (0, wanted, ""))
+        same(f"canon --json {words}", (status, objects(out), err), (0, wanted, ""))
     plain = run(program, "diff", "--zone", "example.", "zone", "changed", cwd=folder)
     places, lines = lines, []
     for line in plain[1].splitlines():
@@ -234,12 +223,12 @@ def check_records(program, folder):
     status, out, err = run(program, "diff", "--zone", "example.", "--json", "zone", "changed", cwd=folder)
     wanted = [{**it, "file": "zone" if it["change"] == "delete" else "changed", "line": places[it["owner"], it["type"]]}
               for it in parted(lines, True)]
-    expect("diff --json", (status, objects(out), err), (1, wanted, plain[2]))
-    expect("diff --json --summary", run(program, "diff", "--json", "--summary", "zone", "zone", cwd=folder)[0], 2)
+    same("diff --json", (status, objects(out), err), (1, wanted, plain[2]))
+    same("diff --json --summary", run(program, "diff", "--json", "--summary", "zone", "zone", cwd=folder)[0], 2)
     with open(os.path.join(folder, "signed"), "wb") as file:
         file.write(zone + b"@ ZONEMD 1 1 1 " + b"00" * 48 + b"\n@ ZONEMD 2 1 2 " + b"00" * 64 + b"\n")
     status, out, err = run(program, "digest", "--zone", "example.", "--json", "signed", cwd=folder)
-    expect("digest --json", (status, objects(out)), (1, [
+    same("digest --json", (status, objects(out)), (1, [
         {"file": "signed", "serial": 1, "scheme": 1, "hash": 1, "verdict": "differs"},
         {"file": "signed", "serial": 2, "scheme": 1, "hash": 2, "verdict": "another serial number than the SOA's"}]))
 
@@ -254,15 +243,13 @@ def check_serials(program, folder):
     zone = 'x"y\\.z.example.'
     wanted = [{"file": name, "zone": zone, "old": serial} for serial, name in enumerate(names, 7)]
     status, out, err = run(program, "serial", "--json", *names, cwd=folder)
-    expect("serial --json", (status, objects(out), err), (0, wanted, ""))
+    same("serial --json", (status, objects(out), err), (0, wanted, ""))
     status, out, err = run(program, "serial", "-w", "--increment", "--json", *names, cwd=folder)
-    expect("serial -w --json", (status, objects(out), err), (0, [{**it, "new": it["old"] + 1} for it in wanted], ""))
+    same("serial -w --json", (status, objects(out), err), (0, [{**it, "new": it["old"] + 1} for it in wanted], ""))
 
 
 def main(words):
-    program = os.path.abspath(words[0] if words else os.path.join(HERE, "out", "zonetext"))
-    if not os.access(program, os.X_OK):
-        sys.exit(f"no program {program}: rt run, in crates/zonetext, builds it")
+    program = program_of(words)
     codes = [tuple(line.split("\t")[:2]) for line in run(program, "codes")[1].splitlines()]
     with tempfile.TemporaryDirectory() as folder:
         for name, octets, _ in ZONES:
@@ -277,8 +264,8 @@ def main(words):
         check_options(program, folder)
         check_records(program, folder)
         check_serials(program, folder)
-    print(f"check_formats.py: {count} comparisons, {len(wrong)} differ")
-    return 1 if wrong else 0
+    print(f"check_formats.py: {counts['rows']} comparisons, {counts['wrong']} differ")
+    return 1 if counts["wrong"] else 0
 
 
 sys.exit(main(sys.argv[1:]))

@@ -11,14 +11,14 @@ with GNU parallel is run where `parallel` is installed.
 """
 import json
 import os
-import resource
 import shutil
 import subprocess
 import sys
 import tempfile
 
-HERE = os.path.dirname(os.path.abspath(__file__))
-STACK = 128 * 1024
+sys.dont_write_bytecode = True
+from check_support import limit_stack, program_of
+
 GOOD = "$TTL 60\n@ SOA ns h 1 7200 1800 1209600 3600\n@ NS ns\n@ NS ns2\nns A 192.0.2.1\nns2 A 192.0.2.2\n"
 BAD = GOOD + "w A 192.0.2.256\n"
 WARNED = GOOD + "@ MX 10 gone\n"
@@ -173,11 +173,6 @@ ROWS = [
 ]
 
 
-def limit_stack():
-    if not os.environ.get("SANITIZED"):
-        resource.setrlimit(resource.RLIMIT_STACK, (STACK, STACK))
-
-
 def write_files(folder, files):
     for name, text in files.items():
         path = os.path.join(folder, name)
@@ -257,9 +252,7 @@ def run_parallel(program):
 def main(words):
     peers = "--peers" in words
     words = [word for word in words if word != "--peers"]
-    program = os.path.abspath(words[0] if words else os.path.join(HERE, "out", "zonetext"))
-    if not os.access(program, os.X_OK):
-        sys.exit(f"no program {program}: rt run, in crates/zonetext, builds it")
+    program = program_of(words)
     wrong = 0
     cases = [(row[0], lambda row=row: run_row(program, row, peers)) for row in ROWS]
     cases += [("one SARIF log", lambda: run_machine(program)), ("GNU parallel", lambda: run_parallel(program))]

@@ -14,9 +14,11 @@ import sys
 import tempfile
 import time
 
-HERE = os.path.dirname(os.path.abspath(__file__))
+sys.dont_write_bytecode = True
+from check_support import program_of
+
 MEGABYTES = int(sys.argv[1]) if len(sys.argv) > 1 else 1000
-PROGRAM = os.path.abspath(sys.argv[2] if len(sys.argv) > 2 else f'{HERE}/out/zonetext')
+PROGRAM = program_of(sys.argv[2:])
 MEMORY = 64
 MORE = 16
 # Average length of a record's line, in octets.
@@ -121,8 +123,6 @@ def kill_midway(scratch, runs):
 
 
 def main():
-    if not os.access(PROGRAM, os.X_OK):
-        sys.exit(f'no program {PROGRAM}: rt run, in crates/zonetext, builds it')
     count = MEGABYTES * 1000000 // LINE
     with tempfile.TemporaryDirectory() as scratch:
         runs = f'{scratch}/runs'

@@ -16,35 +16,15 @@ import subprocess
 import sys
 import tempfile
 import time
+from functools import partial
 
-HERE = os.path.dirname(os.path.abspath(__file__))
-PROGRAM = os.path.abspath(sys.argv[1] if len(sys.argv) > 1 else f'{HERE}/out/zonetext')
-counts = {'rows': 0, 'wrong': 0}
+sys.dont_write_bytecode = True
+from check_support import counts, held, program_of, put, run as ran, same
+
+PROGRAM = program_of(sys.argv[1:])
+run = partial(ran, PROGRAM)
 # 2026-11-26, 12:00:00 UTC
 DAY = ('--now', '20261126120000')
-
-
-def run(*words, given='', program=None, other=None):
-    ran = subprocess.run([program or PROGRAM, *words], input=given.encode('latin-1'), stdout=subprocess.PIPE,
-                         stderr=subprocess.PIPE, **(other or {}))
-    return ran.returncode, ran.stdout.decode('latin-1'), ran.stderr.decode('latin-1')
-
-
-def same(title, got, wanted):
-    counts['rows'] += 1
-    if got != wanted:
-        counts['wrong'] += 1
-        print(f'differs: {title}\n  got    {got!r:.2000}\n  wanted {wanted!r:.2000}')
-
-
-def put(name, text):
-    with open(name, 'wb') as file:
-        file.write(text.encode('latin-1'))
-
-
-def held(name):
-    with open(name, 'rb') as file:
-        return file.read().decode('latin-1')
 
 
 def fresh(text):
@@ -322,12 +302,12 @@ def closed_rows(whole):
     other = {} if os.geteuid() else {'user': 65534, 'group': 65534, 'extra_groups': []}
     words = ('serial', '--write', '--increment', '--zone', 'example.', 'closed/z')
     wanted = (3, '', 'zonetext: closed/z: Permission denied (os error 13)\nzonetext: closed/z: nothing is written\n')
-    same('a closed folder', run(*words, program='./program', other=other), wanted)
+    same('a closed folder', ran('./program', *words, **other), wanted)
     same('a closed folder: the file', held('closed/z'), whole)
     same('a closed folder: nothing else', os.listdir('closed'), ['z'])
     os.chmod('closed', 0o755)
     os.chmod('closed/z', 0)
-    same('an unreadable file', run(*words, program='./program', other=other), wanted)
+    same('an unreadable file', ran('./program', *words, **other), wanted)
     os.chmod('closed/z', 0o644)
     same('an unreadable file: the same', held('closed/z'), whole)
 
@@ -451,8 +431,6 @@ def signer_rows():
 
 
 def main():
-    if not os.access(PROGRAM, os.X_OK):
-        sys.exit(f'no program {PROGRAM}: rt run, in crates/zonetext, builds it')
     with tempfile.TemporaryDirectory() as scratch:
         os.chdir(scratch)
         number_rows()

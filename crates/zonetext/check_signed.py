@@ -13,7 +13,9 @@ import subprocess
 import sys
 import tempfile
 
-HERE = os.path.dirname(os.path.abspath(__file__))
+sys.dont_write_bytecode = True
+from check_support import program_of
+
 ORIGIN = "example."
 # An apex, a host, a wildcard, empty non-terminals (c.b, b, y, z.y, x.z.y), delegations with and without DS, and glue.
 ZONE = """\
@@ -150,9 +152,7 @@ def check(program, lines, path, is_hashed, usual):
 
 
 def main(words):
-    program = os.path.abspath(words[0] if words else os.path.join(HERE, "out", "zonetext"))
-    if not os.access(program, os.X_OK):
-        sys.exit(f"no program {program}: rt run, in crates/zonetext, builds it")
+    program = program_of(words)
     signers = [it for it in SIGNERS if shutil.which(it[1][0])]
     for name in sorted({it[1][0] for it in SIGNERS} - {it[1][0] for it in signers}):
         print(f"no {name}: its signed zones are left out", file=sys.stderr)

@@ -12,9 +12,11 @@ import subprocess
 import sys
 import tempfile
 
-HERE = os.path.dirname(os.path.abspath(__file__))
+sys.dont_write_bytecode = True
+from check_support import HERE, program_of, put
+
 WORDS = [word for word in sys.argv[1:] if word != '--least']
-PROGRAM = os.path.abspath(WORDS[0] if WORDS else f'{HERE}/out/zonetext')
+PROGRAM = program_of(WORDS)
 LEAST = '--least' in sys.argv
 LIMIT = 128
 SOA = '$ORIGIN example.\n@ 60 SOA ns h 1 4 2 9 5\n@ NS ns\n@ NS ns.o.\nns A 192.0.2.1\n'
@@ -30,11 +32,6 @@ DATA = [
 ]
 # Files that include one another, ten at most, each with an origin of its own.
 DEPTH = 11
-
-
-def put(name, text):
-    with open(name, 'w', encoding='ascii') as file:
-        file.write(text)
 
 
 def write_zones():

@@ -17,33 +17,20 @@ import subprocess
 import sys
 import tempfile
 import time
+from functools import partial
 
-HERE = os.path.dirname(os.path.abspath(__file__))
-PROGRAM = os.path.abspath(sys.argv[1] if len(sys.argv) > 1 else f'{HERE}/out/zonetext')
+sys.dont_write_bytecode = True
+from check_support import counts, program_of, put, run as ran, same
+
+PROGRAM = program_of(sys.argv[1:])
+run = partial(ran, PROGRAM)
 SEED = int(sys.argv[2]) if len(sys.argv) > 2 else 1
 LESS = 10 if 'SANITIZED' in os.environ else 1
 PAIRS = 20
 # Time limit of the start of named, in seconds.
 START_SECONDS = 300
 TOOLS = 'named', 'nsupdate', 'dig'
-counts = {'rows': 0, 'wrong': 0, 'zones': 0}
-
-
-def run(*words, given=''):
-    ran = subprocess.run([PROGRAM, *words], input=given.encode('latin-1'), stdout=subprocess.PIPE, stderr=subprocess.PIPE)
-    return ran.returncode, ran.stdout.decode('latin-1'), ran.stderr.decode('latin-1')
-
-
-def same(title, got, wanted):
-    counts['rows'] += 1
-    if got != wanted:
-        counts['wrong'] += 1
-        print(f'differs: {title}\n  got    {got!r:.2000}\n  wanted {wanted!r:.2000}')
-
-
-def put(name, text):
-    with open(name, 'w', encoding='latin-1') as file:
-        file.write(text)
+counts['zones'] = 0
 
 
 def soa(serial, timers='3600 900 604800 300'):

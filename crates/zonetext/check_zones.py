@@ -27,11 +27,11 @@ import sys
 import tempfile
 from urllib.parse import unquote_to_bytes
 
-HERE = os.path.dirname(os.path.abspath(__file__))
+sys.dont_write_bytecode = True
+from check_support import HERE, limit_stack, program_of
+
 FRONT = b"@ 60 SOA ns h 1 4 2 9 5\n@ NS ns\n@ NS ns.o.\nns A 192.0.2.1\n"
 ORIGIN = "example."
-# Octets of stack that the program has.
-STACK = 128 * 1024
 # Number of zones that are chosen at random, and length of the zone that is timed.
 ROUNDS, LENGTH = 200, 10_000_000
 if os.environ.get("UNPROVED"):
@@ -71,11 +71,6 @@ def shown_rows():
                 name, options, text, wanted, hidden = line.rstrip("\n").split("\t")
                 octets = (FRONT if text.startswith("+") else b"") + unquote_to_bytes(text.removeprefix("+"))
                 yield name, options.split(), octets, wanted, int(hidden)
-
-
-def limit_stack():
-    if not os.environ.get("SANITIZED"):
-        resource.setrlimit(resource.RLIMIT_STACK, (STACK, STACK))
 
 
 def found(program, path, options):
@@ -251,9 +246,7 @@ def check_times(program, path):
 def main(words):
     peers = [peer for peer in PEERS if shutil.which(peer)] if "--peers" in words else []
     words = [word for word in words if word != "--peers"]
-    program = os.path.abspath(words[0] if words else os.path.join(HERE, "out", "zonetext"))
-    if not os.access(program, os.X_OK):
-        sys.exit(f"no program {program}: rt run, in crates/zonetext, builds it")
+    program = program_of(words)
     count = wrong = 0
     with tempfile.TemporaryDirectory() as folder:
         path = os.path.join(folder, "zone")

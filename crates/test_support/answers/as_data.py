@@ -2,7 +2,7 @@
 """Converts rows about fields and other parts of RDATA to rows about whole RDATA of a suitable type, so that a
 library or program that only parses and prints whole RDATA can answer them.
 
-usage: .ci/as_data.py ROWS > DATA
+usage: crates/test_support/answers/as_data.py ROWS > DATA
 
 Each line of DATA is a line number of ROWS, a tab, and a row of `data`, `data.why` or `data.print`. One row can
 become several, and all of them must agree. Rows without such a form are skipped.

@@ -1,7 +1,7 @@
 #!/usr/bin/env python3
 """Answers rows of crates/test_rows independently, by Python's libraries, a few lines here, and zone_text.py.
 
-usage: cat crates/test_rows/stdin crates/test_rows/rows | .ci/rows_by_python.py
+usage: cat crates/test_rows/stdin crates/test_rows/rows | crates/test_support/answers/rows_by_python.py
 """
 import base64
 import binascii
