@@ -192,13 +192,14 @@ def nested_parentheses(count):
 
 def unknown_codes(count):
     """Returns an A with an exception of `count` codes that don't exist."""
-    return "host IN A 192.0.2.1 ; zonetext: allow" + ", x" * count + "\n"
+    return "host IN A 192.0.2.1 ; zonetext: allow x" + ", x" * (count - 1) + "\n"
 
 
 LINES = [high_octets, nested_parentheses, unknown_codes]
 OF_LINES = [
     ["check"],
     ["check", "--zone", tools.ZONE],
+    ["check", "--max", "0"],
     ["check", "--max", "1"],
     ["check", "--allow", "high-octet", "--allow", "nested-parentheses", "--allow", "exception"],
     ["records"],
