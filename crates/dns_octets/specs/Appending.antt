@@ -10,6 +10,10 @@ Extends old new = (more : List ℕ) × (new ≡ old ++ more)
 abbrev pub Gains : (List ℕ → Type 0) → List ℕ → List ℕ → Type 0
 Gains Is old new = (octets : List ℕ) × Is octets × (new ≡ old ++ octets)
 
--- some octets that satisfy a predicate exceed the guaranteed capacity
+-- all octets that satisfy a predicate exceed the guaranteed capacity
 abbrev pub LacksRoom : Room → (List ℕ → Type 0) → List ℕ → Type 0
 LacksRoom room Is old = (octets : List ℕ) → Is octets → room.fits < length old + length octets
+
+-- some octets satisfy a predicate, and exceed the guaranteed capacity
+abbrev pub ExceedsRoom : Room → (List ℕ → Type 0) → List ℕ → Type 0
+ExceedsRoom room Is old = (octets : List ℕ) × Is octets × (room.fits < length old + length octets)
