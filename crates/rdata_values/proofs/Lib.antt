@@ -14,6 +14,7 @@ pub mod Periods
 pub mod ReadBack
 pub mod Registries
 pub mod SaltLaws
+pub mod SchemeLaws
 pub mod TimeTexts
 pub mod TtlLaws
 pub mod Bits

@@ -11,6 +11,7 @@ pub mod Registry
 pub mod Rows
 pub mod Rtype
 pub mod Salt
+pub mod Schemes
 pub mod Time
 pub mod Ttl
 pub mod Types

@@ -9,6 +9,7 @@ use Rattle.rdata_values.specs.Eui.{dashed_text}
 use Rattle.rdata_values.specs.Locator.{locator_text}
 use Rattle.rdata_values.specs.Registry.{code_row, row_code, row_name, code_text}
 use Rattle.rdata_values.specs.Salt.{salt_text}
+use Rattle.rdata_values.specs.Schemes.{scheme_rows}
 use Rattle.rdata_values.specs.Time.{is_leap, month_days, seconds_at, date_of, date_text, date_at, year_at, month_at, holding}
 use Rattle.rdata_values.specs.Ttl.{unit_seconds, Period, period_text, period_seconds}
 use Rattle.rdata_values.specs.Rtype as Rtype
@@ -85,6 +86,9 @@ algorithm_names = refl
 
 certificates : map (code_text certificate_rows []) (1 ∷ 253 ∷ 9 ∷ []) ≡ codes "PKIX" ∷ codes "URI" ∷ decimal 9 ∷ []
 certificates = refl
+
+schemes : map (code_text scheme_rows []) (1 ∷ 0 ∷ 255 ∷ []) ≡ codes "NOTIFY" ∷ decimal 0 ∷ decimal 255 ∷ []
+schemes = refl
 
 -- ---- octets
 

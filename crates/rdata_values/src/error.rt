@@ -49,6 +49,8 @@ pub enum ErrorKind {
     UnknownAlgorithm,
     /// The text does not name a certificate type.
     UnknownCertificate,
+    /// The text does not name a scheme.
+    UnknownScheme,
     /// The text is not an EUI-48.
     ExpectedEui48,
     /// The text is not an EUI-64.
@@ -214,6 +216,7 @@ impl ErrorKind {
             ErrorKind::UnknownClass => "unknown class",
             ErrorKind::UnknownAlgorithm => "unknown algorithm",
             ErrorKind::UnknownCertificate => "unknown certificate type",
+            ErrorKind::UnknownScheme => "unknown scheme",
             ErrorKind::ExpectedEui48 => "expected EUI-48",
             ErrorKind::ExpectedEui64 => "expected EUI-64",
             ErrorKind::ExpectedLocator => "expected locator",
