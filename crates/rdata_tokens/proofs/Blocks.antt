@@ -1,7 +1,7 @@
 -- Whole groups, a block at a time.
 use Rattle.std.proofs.Common.{◌≡◌, ◌≢◌, ℕ, ◌+◌, ◌-◌, ◌*◌, ◌/◌, ◌%◌, ◌<◌, ◌≤◌, false, List, [], ◌∷◌, ◌++◌, length, take, drop, refl, sym, ap, subst, ◌∙◌, arith, length-append, min, inl}
 use Rattle.std.proofs.Math.Seq.{take-add}
-use Rattle.std.proofs.lemmas.List.{length-take-le, take-append-drop, append_assoc}
+use Rattle.std.proofs.lemmas.List.{length-take-le, take-append-drop}
 use Rattle.dns_octets.specs.Room.{Room}
 use Rattle.rdata_tokens.specs.Spelled.{SpellsDigits, opens_group, base_of}
 use Rattle.rdata_tokens.specs.Reading.{DigitsState, AcceptsPiece, RefusesPiece}
@@ -10,7 +10,6 @@ use Rattle.rdata_tokens.specs.declared.kind.DigitsKind.TheVariants.{Hex, Base64}
 use Rattle.rdata_values.specs.declared.error.ErrorKind.TheVariants.{ShortBuf}
 use Rattle.rdata_tokens.proofs.Spelling.{known, spells_once, spells_joined, opens_joined}
 use Rattle.rdata_tokens.proofs.Pieces.{nothing_spelled, nothing_open, cons_not_nil, closes, takes_none, takes_some}
-use Rattle.rdata_tokens.proofs.TakenDigit.{least_on}
 
 -- the end of the next block
 pub block_end : (k : DigitsKind) (size at m total : ℕ) → size ≡ (base_of k).group → at % (base_of k).group ≡ 0 → m ≤ total - at - 1 → size < total - at
@@ -49,6 +48,9 @@ no_room fits old now gained more is full =
     let b = length-append gained more in
     omega (arith, a, b, full)
 
+pub some_room : (fits : ℕ) (now gained more : List ℕ) → (length more ≤ fits - length now → ⊥) → 0 < length (gained ++ more)
+some_room fits now gained more full = omega (arith, length-append gained more, full)
+
 -- ---- blocks as a piece, if no group is begun
 
 module _ (s : DigitsState) (digits : List ℕ) (goes : s.ended ≡ false) (none : s.begun ≡ []) where
@@ -65,15 +67,13 @@ module _ (s : DigitsState) (digits : List ℕ) (goes : s.ended ≡ false) (none 
           (subst (λ t. SpellsDigits (base_of s.kind) t gained) (sym text) spelled) (ap (λ t. length t % (base_of s.kind).group) text ∙ whole) (goes ∙ sym closed))
 
   pub lacks_blocks : (room : Room) (old : List ℕ) (n : ℕ) (gained : List ℕ) → length (take n digits) % (base_of s.kind).group ≡ 0 → SpellsDigits (base_of s.kind) (take n digits) gained
-      → digits ≢ [] → room.fits < length old + length gained → RefusesPiece room s digits old ShortBuf
-  lacks_blocks room old n gained whole spelled some full = record {
+      → digits ≢ [] → 0 < length gained → room.fits < length old + length gained → RefusesPiece room s digits old ShortBuf
+  lacks_blocks room old n gained whole spelled some more full = record {
     some = some;
     why = inl refl;
-    lacks = λ short v g. (
-        let parts : (s.begun ++ digits) ++ g.1.0 ≡ take n digits ++ (drop n digits ++ g.1.0) =
-        ap (λ t. (t ++ digits) ++ g.1.0) none ∙ (ap (λ t. t ++ g.1.0) (sym (take-append-drop n digits)) ∙ append_assoc (take n digits) (drop n digits) g.1.0) in
-        let least = least_on s.kind (take n digits) (drop n digits ++ g.1.0) gained v whole spelled (subst (λ t. SpellsDigits (base_of s.kind) t v) parts g.1.1) in
-        omega (arith, least, full)
+    exceeds = λ short. (
+        let here : SpellsDigits (base_of s.kind) (s.begun ++ take n digits) gained = subst (λ (b : List ℕ). SpellsDigits (base_of s.kind) (b ++ take n digits) gained) (sym none) spelled in
+        (gained, (goes, take n digits, drop n digits, sym (take-append-drop n digits), here, more), full)
         );
     none = λ other. absurd (other refl);
   }

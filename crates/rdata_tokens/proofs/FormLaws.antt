@@ -1,12 +1,13 @@
 -- Laws of octets, character strings and tags.
 use Rattle.std.proofs.Common.{ℕ, suc, ◌≡◌, ◌+◌, ◌-◌, ◌<◌, ◌≤◌, Bool, true, false, List, [], ◌∷◌, ◌++◌, length, map, take, drop, get_or, refl, sym, ap, subst, ◌∙◌, arith, append_assoc, append-nil, Option, Some, None, inl, inr}
-use Rattle.std.specs.Prelude.{if◌then◌else◌, encode_utf8_all}
+use Rattle.std.specs.Prelude.{if◌then◌else◌, encode_utf8_all, IsTrue}
 use Rattle.std.specs.List.{flat_map}
 use Rattle.std.proofs.lemmas.Bool.Decides.{nat_tests}
 use Rattle.std.proofs.lemmas.List.{length-take-le, take-append-drop, get_or_default}
 use Rattle.std.proofs.lemmas.List.Elements.{All-cons, All-head, All-tail, All-take, All-drop}
 use Rattle.std.proofs.lemmas.Str.{encodes-IsAscii}
 use Rattle.dns_octets.specs.Room.{Room}
+use Rattle.dns_octets.specs.Appending.{ExceedsRoom}
 use Rattle.dns_symbol.specs.Symbol.{spell, is_printable}
 use Rattle.dns_symbol.specs.Printed.{symbol_of, is_quoted_escape}
 use Rattle.dns_symbol.specs.declared.symbol.Symbol.{Symbol}
@@ -15,9 +16,10 @@ use Rattle.dns_symbol.proofs.PrintedForms.{printed_ascii}
 use Rattle.dns_wire.specs.Labelled.{label_same}
 use Rattle.rdata_values.specs.declared.error.ErrorKind.{ErrorKind}
 use Rattle.dns_symbol.specs.Escape.{is_spelling, octet_for}
-use Rattle.rdata_tokens.specs.Spelling.{SpellsBeginning, SpellsOctetList, AreOctetValues, SpellsAfterCount, RefusesAfterCount}
+use Rattle.rdata_tokens.specs.Spelling.{SpellsBeginning, SpellsOctetList, AreOctetValues, SpellsAfterCount, BeginsAfterCount, RefusesAfterCount}
 use Rattle.rdata_tokens.specs.Forms.{IsWireString, SpellsString, IsTag, IsWireTag, SpellsTag, FindsWidth, AreSpelled, AreSelfDelimiting, RefusesString}
 use Rattle.rdata_tokens.specs.Shown.{text_in_quotes, octets_in_quotes, string_in_quotes, tag_text}
+use Rattle.rdata_tokens.proofs.Fronts.{fewer_spelled}
 use Rattle.rdata_tokens.proofs.Spellings.{AreSpellings, spelled_once, spellings_head, spellings_tail}
 
 -- ---- octets below 256
@@ -145,6 +147,13 @@ tags_spelled = record {
   once = λ text a b h k. h.1 ∙ sym k.1;
 }
 
+-- a part of a tag's octets doesn't fit after those before it
+pub tag_exceeds : (room : Room) (text old middle : List ℕ) (used size : ℕ) → IsTag text → length middle ≡ length old + used → used + size ≤ suc (length text) → (size ≤ room.fits - length middle → IsTrue false)
+    → ExceedsRoom room (SpellsTag text) old
+tag_exceeds room text old middle used size is before within short =
+    let full : size ≤ room.fits - length middle → ⊥ = (λ p. let q = short p in cc) in
+    (length text ∷ text, (is, refl), omega (arith, full, before, within))
+
 tag_at : (form rest : List ℕ) (found : Option ℕ) → IsWireTag form → FindsWidth IsWireTag (form ++ rest) found → found ≡ Some (length form)
 tag_at form rest None h k = absurd (k form rest h refl)
 tag_at form rest (Some width) h k = ap (λ n. Some n) (counted_width h.tag form rest k.1.tag [] width h.whole k.0 k.1.whole)
@@ -154,12 +163,14 @@ tags_in_front = record { width = tag_at }
 
 -- ---- strings that are appended and found
 
-pub string_refused : (room : Room) (text old octets : List ℕ) (count : ℕ) (e : ErrorKind) → SpellsOctetList text octets → count ≡ length octets
+pub string_refused : (room : Room) (text old octets : List ℕ) (count : ℕ) (e : ErrorKind) → SpellsOctetList text octets → count ≡ length octets → length octets ≤ 255
     → RefusesAfterCount count room text old e → RefusesString room text old e
-string_refused room text old octets count e s n (inl h) = subst (RefusesString room text old) (sym h.0) h.1
-string_refused room text old octets count e s n (inr h) = subst (RefusesString room text old) (sym h.0) (λ form k.
-    let same = spelled_once text k.octets octets k.spelled s in
-    h.1 form (record { octets = k.octets; spelled = k.spelled; whole = k.whole ∙ ap (λ m. m ∷ k.octets) (ap length same ∙ sym n) }))
+string_refused room text old octets count e s n short (inl h) = subst (RefusesString room text old) (sym h.0) h.1
+string_refused room text old octets count e s n short (inr h) = subst (RefusesString room text old) (sym h.0) (
+    let form : List ℕ = h.1.0 in
+    let b : BeginsAfterCount count text form = h.1.1 in
+    let few = fewer_spelled text b.octets b.rest octets b.spelled s in
+    (length octets ∷ octets, record { octets = octets; spelled = s; short = short; whole = refl }, omega (arith, few, ap length b.whole, h.1.2)))
 
 pub string_gained : (text octets form : List ℕ) (count : ℕ) → SpellsOctetList text octets → count ≡ length octets → length octets ≤ 255
     → SpellsAfterCount count text form → SpellsString text form

@@ -1,20 +1,22 @@
 -- What a text spells first, and what is appended of it.
-use Rattle.std.proofs.Common.{ℕ, zero, suc, ◌≡◌, ◌+◌, ◌-◌, ◌<◌, ◌≤◌, true, false, List, [], ◌∷◌, ◌++◌, length, map, take, drop, get_or, refl, sym, ap, subst, ◌∙◌, arith, Ok, append_assoc, length-append}
+use Rattle.std.proofs.Common.{ℕ, zero, suc, ◌≡◌, ◌+◌, ◌-◌, ◌<◌, ◌≤◌, true, false, List, [], ◌∷◌, ◌++◌, length, map, take, drop, get_or, refl, sym, ap, subst, ◌∙◌, arith, Ok, append_assoc, length-append, inl, inr}
 use Rattle.std.specs.Prelude.{IsTrue}
 use Rattle.std.specs.List.{flat_map}
 use Rattle.std.proofs.lemmas.Bool.Decides.{nat_tests}
 use Rattle.std.proofs.lemmas.List.{take_all, length-drop}
 use Rattle.dns_octets.specs.Room.{Room}
-use Rattle.dns_octets.specs.Appending.{LacksRoom}
+use Rattle.dns_octets.specs.Appending.{ExceedsRoom}
 use Rattle.dns_symbol.specs.Symbol.{spell}
 use Rattle.dns_symbol.specs.declared.escape.EscapedOctet.{EscapedOctet}
 use Rattle.dns_symbol.specs.declared.escape.EscapeRule.TheVariants.{AnyOctet}
 use Rattle.dns_symbol.specs.declared.symbol.Symbol.{Symbol}
 use Rattle.dns_symbol.specs.declared.symbol.Symbol.TheVariants.{Char}
 use Rattle.dns_symbol.specs.Escape.{ReadsEscape, escape_symbol, is_spelling, octet_for}
-use Rattle.rdata_tokens.specs.Spelling.{SpellsBeginning, SpellsOctetList}
+use Rattle.rdata_tokens.specs.Spelling.{SpellsBeginning, SpellsOctetList, BeginsWithOctets, BeginsAfterCount, RefusesOctets, RefusesAfterCount}
+use Rattle.rdata_values.specs.declared.error.ErrorKind.{ErrorKind}
+use Rattle.rdata_values.specs.declared.error.ErrorKind.TheVariants.{BadEscape, ShortBuf}
 use Rattle.dns_symbol.proofs.Spelled.{escape_spelling, escaped_octet_is, spell_some}
-use Rattle.rdata_tokens.proofs.Spellings.{AreSpellings, front_one, front_join, goes_on}
+use Rattle.rdata_tokens.proofs.Spellings.{AreSpellings, front_none, front_one, front_join, goes_on}
 
 plain_spelling : (o : ℕ) → (o ≡ 92 → ⊥) → is_spelling (Char o) ≡ true
 plain_spelling o h = grind (arith, nat_tests)
@@ -80,10 +82,30 @@ pub appended_more : (text old front rest run after middle new : List ℕ) → Sp
 appended_more text old front rest run after middle new h e k f =
     (front ++ run, front_join text front rest run after h k, f ∙ ap (λ x. x ++ run) e ∙ append_assoc old front run)
 
--- if some of the octets don't fit, they don't fit all together
-pub lacks_some : (room : Room) (text old front rest run after middle : List ℕ) → SpellsBeginning text front rest → middle ≡ old ++ front
-    → SpellsBeginning rest run after → (length run ≤ room.fits - length middle → IsTrue false) → LacksRoom room (SpellsOctetList text) old
-lacks_some room text old front rest run after middle h e k short = λ octets spelled.
-    let on = goes_on text (front ++ run) after octets (front_join text front rest run after h k) spelled in
+-- octets that don't fit, with those before them
+pub exceeds_front : (room : Room) (text old front rest run after middle : List ℕ) → SpellsBeginning text front rest → middle ≡ old ++ front
+    → SpellsBeginning rest run after → (length run ≤ room.fits - length middle → IsTrue false) → ExceedsRoom room (BeginsWithOctets text) old
+exceeds_front room text old front rest run after middle h e k short =
     let full : length run ≤ room.fits - length middle → ⊥ = (λ p. let q = short p in cc) in
-    omega (arith, ap length e, ap length on.2, length-append old front, length-append (front ++ run) on.0, length-append front run)
+    let sum = length-append front run in
+    let all = ap length e ∙ length-append old front in
+    (front ++ run, (after, front_join text front rest run after h k, omega (arith, full, sum)), omega (arith, full, sum, all))
+
+-- the count alone doesn't fit
+pub exceeds_count : (room : Room) (count : ℕ) (text old : List ℕ) → (1 ≤ room.fits - length old → IsTrue false) → ExceedsRoom room (BeginsAfterCount count text) old
+exceeds_count room count text old short =
+    let full : 1 ≤ room.fits - length old → ⊥ = (λ p. let q = short p in cc) in
+    (count ∷ [], record { octets = []; rest = text; spelled = front_none text; whole = refl }, omega (arith, full))
+
+-- octets are rejected after their count
+pub refused_counted : (room : Room) (count : ℕ) (text old middle : List ℕ) (e : ErrorKind) → middle ≡ old ++ count ∷ [] → RefusesOctets room text middle e → RefusesAfterCount count room text old e
+refused_counted room count text old middle BadEscape is h = inl (refl, h)
+refused_counted room count text old middle ShortBuf is h =
+    let sum = ap length is ∙ length-append old (count ∷ []) in
+    inr (refl, (count ∷ h.0, record { octets = h.0; rest = h.1.0; spelled = h.1.1; whole = refl }, omega (arith, sum, h.2)))
+refused_counted room count text old middle other is h = absurd h
+
+-- the octets of a beginning are no more than those of the whole text
+pub fewer_spelled : (text front rest octets : List ℕ) → SpellsBeginning text front rest → SpellsOctetList text octets → length front ≤ length octets
+fewer_spelled text front rest octets h k =
+    let on = goes_on text front rest octets h k in omega (arith, ap length on.2, length-append front on.0)

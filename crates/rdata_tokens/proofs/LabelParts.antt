@@ -10,7 +10,7 @@ use Rattle.std.proofs.lemmas.List.Elements.{All-head, All-tail, All-push}
 use Rattle.std.proofs.lemmas.Grind.{flat_map-append}
 use Rattle.std.proofs.lemmas.List.Sums.{sum_by-cons}
 use Rattle.dns_octets.specs.Room.{Room}
-use Rattle.dns_octets.specs.Appending.{LacksRoom}
+use Rattle.dns_octets.specs.Appending.{ExceedsRoom}
 use Rattle.dns_lexer.specs.declared.runs.OctetClass.TheVariants.{Label}
 use Rattle.dns_lexer.specs.Skip.{is_in}
 use Rattle.dns_symbol.specs.Symbol.{spell}
@@ -20,9 +20,10 @@ use Rattle.dns_wire.specs.Building.{closed}
 use Rattle.dns_wire.specs.Wire.{wire, wire_label, wire_length}
 use Rattle.dns_wire.proofs.Wires.{wire_append, wire_length_append, length_wire}
 use Rattle.dns_symbol.specs.Escape.{is_spelling, octet_for}
-use Rattle.rdata_tokens.specs.Spelling.{SpellsBeginning, SpellsOctetList, SpellsAfterCount}
-use Rattle.rdata_tokens.specs.NameSpelling.{is_plain_dot, is_label_spelling, AreLabelSpellings, IsLabelPart, dotted_parts, part_labels, HasParts, OpensLabel, EndsLabel, GainsLabels, LacksRoomForLabels}
+use Rattle.rdata_tokens.specs.Spelling.{SpellsBeginning, SpellsOctetList, SpellsAfterCount, BeginsAfterCount}
+use Rattle.rdata_tokens.specs.NameSpelling.{is_plain_dot, is_label_spelling, AreLabelSpellings, IsLabelPart, dotted_parts, part_labels, HasParts, OpensLabel, EndsLabel, BeginsWithLabels, GainsLabels}
 use Rattle.dns_symbol.proofs.Spelled.{spell_same, spell_some}
+use Rattle.rdata_tokens.proofs.Fronts.{fewer_spelled}
 use Rattle.rdata_tokens.proofs.Spellings.{AreSpellings, symbols_go_on, spelled_once}
 
 -- ---- symbols of labels
@@ -355,16 +356,56 @@ some_behind (x ∷ xs) some more =
     let off : length (x ∷ xs) - 1 ≡ length xs = omega arith in
     let long : length (take (length (x ∷ xs) - 1) xs) ≡ length (x ∷ xs) - 1 = length-take-le (length (x ∷ xs) - 1) xs (omega arith) in omega (arith, long, off)
 
--- if a label doesn't fit, the labels don't fit all together
-pub lacks_labels : (room : Room) (text old rest middle own_text after : List ℕ) (count own_count : ℕ) (part : List Symbol) → Appended text old rest middle count
-    → OpensLabel rest (254 - count) part after → own_text ≡ flat_map spell part → own_count ≡ length part → 0 < own_count
-    → LacksRoom room (SpellsAfterCount own_count own_text) middle → LacksRoomForLabels room text old
-lacks_labels room text old rest middle own_text after count own_count part i opens e n some lacks = λ all last spelled.
-    let short = lacks (own_count ∷ map octet_for part) (record { octets = map octet_for part; spelled = part_spells own_text part opens.each e; whole = refl }) in
-    let same : dotted_parts i.parts ++ (flat_map spell part ++ after) ≡ dotted_parts all ++ flat_map spell last =
-    ap (λ r. dotted_parts i.parts ++ r) (sym opens.whole) ∙ sym i.front.whole ∙ spelled.front.whole in
-    let long = within_long i.parts part after all last (within i.parts part after all last i.front.each opens.each spelled.front.each spelled.last_each same) (omega (arith, n, some)) in
-    omega (arith, short, long, n, part_length part, ap length i.gained, length-append old (wire (part_labels i.parts [])), length_wire (part_labels i.parts []))
+-- labels of a text, up to a label that ends
+pub begins_up_to : (text after : List ℕ) (parts : List (List Symbol)) (part : List Symbol) → All IsLabelPart parts → IsLabelPart part → text ≡ dotted_parts parts ++ (flat_map spell part ++ after) → EndsLabel after
+    → wire_length (part_labels parts []) + (length part + 1) ≤ 254 → BeginsWithLabels text (wire (part_labels parts part))
+begins_up_to text after parts part each is whole ends fits =
+    let last = labels_last parts part is.some in record {
+      front = dotted_parts parts ++ flat_map spell part;
+      rest = after;
+      whole = whole ∙ sym (append_assoc (dotted_parts parts) (flat_map spell part) after);
+      ends = ends;
+      parts = parts;
+      last = part;
+      spelled = record { front = record { each = each; whole = refl }; last_each = is.each; last_short = is.short };
+      some = omega (arith, ap length last, length-append (map (map octet_for) parts) (map octet_for part ∷ []));
+      fits = omega (arith, fits, push_length parts part, ap wire_length last);
+      octets_are = refl;
+    }
+
+-- if a beginning of a label doesn't fit, the labels up to its end don't
+pub labels_exceed : (room : Room) (text old rest middle own_text after : List ℕ) (count own_count : ℕ) (part : List Symbol) → Appended text old rest middle count
+    → OpensLabel rest (254 - count) part after → EndsLabel after → own_text ≡ flat_map spell part → own_count ≡ length part → 0 < own_count
+    → ExceedsRoom room (BeginsAfterCount own_count own_text) middle → ExceedsRoom room (BeginsWithLabels text) old
+labels_exceed room text old rest middle own_text after count own_count part i opens ends e n some x =
+    let b : BeginsAfterCount own_count own_text x.0 = x.1 in
+    let few = fewer_spelled own_text b.octets b.rest (map octet_for part) b.spelled (part_spells own_text part opens.each e) in
+    let own : IsLabelPart part = record { each = opens.each; some = omega (arith, n, some); short = opens.short } in
+    let fits = opens.fits (omega (arith, n, some)) in
+    let all : wire_length (part_labels i.parts []) + (length part + 1) ≤ 254 = omega (arith, n, fits, i.fits, i.count_is) in
+    let last = labels_last i.parts part own.some in
+    let long = length_wire (part_labels i.parts part) ∙ ap wire_length last ∙ push_length i.parts part in
+    let before = ap length i.gained ∙ length-append old (wire (part_labels i.parts [])) in (
+      wire (part_labels i.parts part),
+      begins_up_to text after i.parts part i.front.each own (i.front.whole ∙ ap (λ r. dotted_parts i.parts ++ r) opens.whole) ends all,
+      omega (arith, x.2, ap length b.whole, few, part_length part, long, before, length_wire (part_labels i.parts [])),
+    )
+
+-- a beginning of labels has no more octets than the labels
+pub within_fewer : (parts : List (List Symbol)) (part : List Symbol) (rest : List ℕ) (all : List (List Symbol)) (last : List Symbol) → Within parts part rest all last
+    → wire_length (part_labels parts part) ≤ wire_length (part_labels all last)
+within_fewer parts (s ∷ ss) rest all last h =
+    omega (arith, within_long parts (s ∷ ss) rest all last h (omega arith), ap wire_length (labels_last parts (s ∷ ss) (omega arith)), push_length parts (s ∷ ss))
+within_fewer parts [] rest all last (in_part more others is own after) =
+    let front = map (map octet_for) parts in
+    let behind = map octet_for more ∷ map (map octet_for) others in
+    let all_are : map (map octet_for) all ≡ front ++ behind = ap (map (map octet_for)) is ∙ map-append (map octet_for) parts (more ∷ others) in
+    let count : wire_length (part_labels all last) ≡ wire_length (front ++ behind) + wire_length (closed (map octet_for last)) =
+    wire_length_append (map (map octet_for) all) (closed (map octet_for last)) ∙ ap (λ n. wire_length n + wire_length (closed (map octet_for last))) all_are in
+    omega (arith, count, wire_length_append front behind, ap wire_length (labels_nil parts))
+within_fewer parts [] rest all last (in_last more is end own after) =
+    let count = wire_length_append (map (map octet_for) all) (closed (map octet_for last)) in
+    omega (arith, count, ap (λ p. wire_length (map (map octet_for) p)) is, ap wire_length (labels_nil parts))
 
 -- octets that are no dots and no backslashes spell a label each by itself
 pub label_plain : (c : ℕ) → is_in Label c ≡ true → (c ≡ 46 → ⊥) × (c ≡ 92 → ⊥)

@@ -1,10 +1,12 @@
 -- What appending a name answers.
 use Rattle.std.proofs.Common.{ℕ, suc, ◌≡◌, ◌≢◌, ◌+◌, ◌-◌, ◌<◌, ◌≤◌, Bool, true, false, List, [], ◌∷◌, ◌++◌, length, map, refl, sym, ap, ◌∙◌, arith, append_assoc, append-nil, length-append, inl, inr, Option, Some, None}
 use Rattle.std.specs.Prelude.{All, ◌⊎◌, IsTrue, ◌==◌}
+use Rattle.std.specs.List.{flat_map}
+use Rattle.dns_symbol.specs.Symbol.{spell}
 use Rattle.std.proofs.lemmas.Bool.{eqb-true}
 use Rattle.std.proofs.lemmas.List.Elements.{All-cons, All-head, All-tail, All-append}
 use Rattle.dns_octets.specs.Room.{Room}
-use Rattle.dns_octets.specs.Appending.{Gains}
+use Rattle.dns_octets.specs.Appending.{ExceedsRoom, Gains}
 use Rattle.dns_symbol.specs.declared.symbol.Symbol.{Symbol}
 use Rattle.dns_wire.specs.Building.{closed}
 use Rattle.dns_wire.specs.Opened.{snoc_same}
@@ -13,9 +15,9 @@ use Rattle.dns_wire.proofs.Wires.{wire_append, wire_length_append, length_wire, 
 use Rattle.rdata_values.specs.declared.error.ErrorKind.{ErrorKind}
 use Rattle.rdata_values.specs.declared.error.ErrorKind.TheVariants.{BadEscape, EmptyLabel, LongLabel, LongName, NoOrigin, ShortBuf}
 use Rattle.dns_symbol.specs.Escape.{octet_for}
-use Rattle.rdata_tokens.specs.NameSpelling.{IsLabelPart, part_labels, SpellsParts, SpellsLabels, root_alone, origin_alone, absolute, relative, SpellsName, HasBadLabel, IsRelative, IsLongWithOrigin, WhyNoName, RefusesName, GainsLabels, LacksRoomForLabels}
-use Rattle.rdata_tokens.proofs.LabelParts.{labels_last, wire_length_cons}
-use Rattle.rdata_tokens.proofs.NameReadings.{parts_once, root_no_parts, origin_no_dot, same_some, not_both, name_once, Fitting, none_fitting}
+use Rattle.rdata_tokens.specs.NameSpelling.{IsLabelPart, dotted_parts, part_labels, SpellsParts, SpellsLabels, root_alone, origin_alone, absolute, relative, SpellsName, HasBadLabel, IsRelative, IsLongWithOrigin, WhyNoName, BeginsWithLabels, BeginsName, RefusesName, GainsLabels}
+use Rattle.rdata_tokens.proofs.LabelParts.{labels_last, wire_length_cons, within, within_fewer}
+use Rattle.rdata_tokens.proofs.NameReadings.{parts_once, begins_no_root, root_no_parts, origin_no_dot, same_some, not_both, name_once, Fitting, none_fitting}
 
 -- ---- names that are spelled
 
@@ -107,12 +109,9 @@ ended_gained origin text old middle end new h e = (h.front ++ end, h.spelled, e 
 
 pub ended_lacks : (room : Room) (origin : Option (List (List ℕ))) (text old middle end : List ℕ) → Ended origin text old middle end
     → (length end ≤ room.fits - length middle → IsTrue false) → RefusesName room origin text old ShortBuf
-ended_lacks room origin text old middle end h short = inl (
-  refl,
-  λ form spelled.
-      let full : length end ≤ room.fits - length middle → ⊥ = (λ p. let q = short p in cc) in
-      omega (arith, ap length (name_once origin text form (h.front ++ end) spelled h.spelled), ap length h.is, length-append old h.front, length-append h.front end),
-)
+ended_lacks room origin text old middle end h short =
+    let full : length end ≤ room.fits - length middle → ⊥ = (λ p. let q = short p in cc) in
+    inl (refl, (h.front ++ end, inr h.spelled, omega (arith, full, ap length h.is, length-append old h.front, length-append h.front end)))
 
 pub alone : (origin : Option (List (List ℕ))) (text old end : List ℕ) → SpellsName origin text end → Ended origin text old old end
 alone origin text old end h = record { front = []; is = sym (append-nil old); spelled = h }
@@ -162,6 +161,21 @@ fitting_name origin text form s no_dot no_at = of s.spelled
         }
     of (relative parts last others some h no_at o is) = with_others parts last others some h is
 
+-- a beginning of a name has no more octets than the name
+pub name_begun : (origin : Option (List (List ℕ))) (text front form : List ℕ) → BeginsName origin text front → SpellsName origin text form → length front ≤ length form
+name_begun origin text front form (inr h) s = let same = ap length (name_once origin text front form h s) in omega (arith, same)
+name_begun origin text front form (inl h) s =
+    let no_at = h.0 in
+    let b : BeginsWithLabels text front = h.1 in
+    let no_dot : text ≢ 46 ∷ [] = (λ e. begins_no_root text b.front b.rest b.parts b.last e b.whole b.spelled b.some) in
+    let f = fitting_name origin text form s no_dot no_at in
+    let all = f.fitting in
+    let same : dotted_parts b.parts ++ (flat_map spell b.last ++ b.rest) ≡ dotted_parts all.all ++ flat_map spell all.last =
+    sym (append_assoc (dotted_parts b.parts) (flat_map spell b.last) b.rest) ∙ ap (λ t. t ++ b.rest) (sym b.spelled.front.whole) ∙ sym b.whole ∙ all.spelled.front.whole in
+    let few = within_fewer b.parts b.last b.rest all.all all.last
+    (within b.parts b.last b.rest all.all all.last b.spelled.front.each b.spelled.last_each all.spelled.front.each all.spelled.last_each same) in
+    omega (arith, few, f.long, ap length b.octets_are, length_wire (part_labels b.parts b.last))
+
 why_bad : (origin : Option (List (List ℕ))) (text : List ℕ) (why : ErrorKind) → text ≢ 46 ∷ [] → HasBadLabel text why → WhyNoName origin text why
 why_bad origin text BadEscape no_dot h = h
 why_bad origin text EmptyLabel no_dot h = (h, no_dot)
@@ -170,13 +184,8 @@ why_bad origin text LongName no_dot h = inl h
 why_bad origin text other no_dot h = absurd h.refused
 
 pub labels_refused : (room : Room) (origin : Option (List (List ℕ))) (text old : List ℕ) (why : ErrorKind) → text ≢ 46 ∷ [] → text ≢ 64 ∷ []
-    → ((why ≡ ShortBuf) × LacksRoomForLabels room text old) ⊎ HasBadLabel text why → RefusesName room origin text old why
-labels_refused room origin text old why no_dot no_at (inl h) = inl (
-  h.0,
-  λ form s.
-      let f = fitting_name origin text form s no_dot no_at in
-      let lacks = h.1 f.fitting.all f.fitting.last f.fitting.spelled in let long = f.long in omega (arith, lacks, long),
-)
+    → ((why ≡ ShortBuf) × ExceedsRoom room (BeginsWithLabels text) old) ⊎ HasBadLabel text why → RefusesName room origin text old why
+labels_refused room origin text old why no_dot no_at (inl h) = inl (h.0, (h.1.0, inl (no_at, h.1.1), h.1.2))
 labels_refused room origin text old why no_dot no_at (inr h) =
     inr (why_bad origin text why no_dot h, λ form s. none_fitting text why h (fitting_name origin text form s no_dot no_at).fitting)
 
@@ -196,7 +205,7 @@ pub origin_lacking : (room : Room) (origin : Option (List (List ℕ))) (text old
 origin_lacking room origin text old none rel = inr ((none, rel), λ form s. no_relative origin text s.labels none rel s.spelled)
 
 pub labels_relative : (text old middle : List ℕ) (count : ℕ) (is_absolute : Bool) → GainsLabels text old middle count is_absolute → is_absolute ≡ false → IsRelative text
-labels_relative text old middle count is_absolute g e = inr (g.parts, g.last, g.spelled, last_some g.last is_absolute g.ends e)
+labels_relative text old middle count is_absolute g e = inr (g.parts, g.last, g.spelled, last_some g.last is_absolute g.ends e, omega (arith, g.fits, g.count_is))
 
 no_long : (origin : Option (List (List ℕ))) (text form : List ℕ) → IsLongWithOrigin origin text → SpellsName origin text form → ⊥
 no_long origin text form h s = of s.spelled

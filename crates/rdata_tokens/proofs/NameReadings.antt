@@ -89,6 +89,14 @@ labels_once origin text a b (relative parts part others some h no_at o is) (rela
 pub name_once : (origin : Option (List (List ℕ))) (text a b : List ℕ) → SpellsName origin text a → SpellsName origin text b → a ≡ b
 name_once origin text a b h k = h.whole ∙ ap wire (labels_once origin text h.labels k.labels h.spelled k.spelled) ∙ sym k.whole
 
+-- nor does the root's text begin with labels
+pub begins_no_root : (text front rest : List ℕ) (parts : List (List Symbol)) (last : List Symbol) → text ≡ 46 ∷ [] → text ≡ front ++ rest → SpellsParts front parts last → 0 < length (part_labels parts last) → ⊥
+begins_no_root text front rest [] [] e w h some = absurd (omega (arith, some))
+begins_no_root text front rest [] (s ∷ ss) e w h some =
+    no_dot s (flat_map spell ss ++ rest) [] (label_head s ss h.last_each) (sym (append_assoc (spell s) (flat_map spell ss) rest) ∙ ap (λ f. f ++ rest) (sym h.front.whole) ∙ sym w ∙ e)
+begins_no_root text front rest (part ∷ parts) last e w h some =
+    omega (arith, part_long part parts (flat_map spell last) h.front.each, ap length h.front.whole, length-append front rest, ap length w, ap length e)
+
 -- ---- labels that are rejected
 
 -- a text that is labels with room for the root, at least one
@@ -176,8 +184,8 @@ none_fitting text LongLabel h f = let r = h.refused in
     let short = within_short h.parts (r.0 ++ more.octet ∷ []) more.rest f.all f.last f.spelled.front.each f.spelled.last_short more.is in
     omega (arith, short, r.3, length-append r.0 (more.octet ∷ []))
 none_fitting text LongName h f = let r = h.refused in
-    let more = longer h.parts r.0 r.1 f.all f.last r.4 (begins text h.parts r.0 h.rest r.1 _ h.front r.2 f) in
+    let more = longer h.parts r.0 r.1 f.all f.last r.5 (begins text h.parts r.0 h.rest r.1 _ h.front r.2 f) in
     let plus = length-append r.0 (more.octet ∷ []) in
     let long = within_long h.parts (r.0 ++ more.octet ∷ []) more.rest f.all f.last more.is (omega (arith, plus)) in
-    omega (arith, long, r.3, plus, f.fits)
+    omega (arith, long, r.4, plus, f.fits)
 none_fitting text other h f = h.refused

@@ -1,5 +1,5 @@
 -- A piece of whole pairs of hexadecimal digits, where no group is begun.
-use Rattle.std.proofs.Common.{◌≡◌, ◌≢◌, ℕ, ◌+◌, ◌-◌, ◌*◌, ◌%◌, ◌<◌, ◌≤◌, Bool, false, List, [], ◌++◌, length, take, refl, sym, ap, subst, ◌∙◌, arith}
+use Rattle.std.proofs.Common.{◌≡◌, ◌≢◌, ℕ, ◌-◌, ◌*◌, ◌%◌, ◌≤◌, Bool, false, List, [], length, take, refl, sym, ap, subst, ◌∙◌, arith}
 use Rattle.std.specs.Prelude.{IfSome, MatchOption, Option, Some, None}
 use Rattle.std.proofs.lemmas.List.{take_all}
 use Rattle.dns_octets.specs.Room.{Room}
@@ -33,18 +33,18 @@ fresh_taken : (piece gained : List ℕ) → piece ≢ [] → SpellsDigits base16
 fresh_taken piece gained some spelled =
     takes_some fresh fresh piece gained refl some refl (closes fresh piece gained refl spelled (even_digits piece gained spelled) (sym (closed_pairs gained)))
 
-fresh_refused : (room : Room) (old piece gained : List ℕ) → piece ≢ [] → SpellsDigits base16 piece gained → room.fits < length old + length gained → RefusesPiece room fresh piece old ShortBuf
+fresh_refused : (room : Room) (old piece gained : List ℕ) → piece ≢ [] → SpellsDigits base16 piece gained → (length gained ≤ room.fits - length old → ⊥) → RefusesPiece room fresh piece old ShortBuf
 fresh_refused room old piece gained some spelled full =
     let all : take (length piece) piece ≡ piece = take_all (length piece) piece (omega arith) in
     lacks_blocks fresh piece refl refl room old (length piece) gained
-    (subst (λ t. length t % 2 ≡ 0) (sym all) (even_digits piece gained spelled)) (subst (λ t. SpellsDigits base16 t gained) (sym all) spelled) some full
+    (subst (λ t. length t % 2 ≡ 0) (sym all) (even_digits piece gained spelled)) (subst (λ t. SpellsDigits base16 t gained) (sym all) spelled) some (omega (arith, full)) (omega (arith, full))
 
 pub pairs_taken : (s : DigitsState) (piece gained : List ℕ) → AreWholePairs s piece gained → AcceptsPiece s piece gained s
 pairs_taken s piece gained p = subst (λ (t : DigitsState). AcceptsPiece t piece gained t) (fresh_is s p.kind p.none p.goes) (fresh_taken piece gained p.some p.spelled)
 
 pub pairs_refused : (room : Room) (s : DigitsState) (old piece gained : List ℕ) → AreWholePairs s piece gained → (length gained ≤ room.fits - length old → ⊥) → RefusesPiece room s piece old ShortBuf
 pairs_refused room s old piece gained p full =
-    subst (λ (t : DigitsState). RefusesPiece room t piece old ShortBuf) (fresh_is s p.kind p.none p.goes) (fresh_refused room old piece gained p.some p.spelled (omega (arith, full)))
+    subst (λ (t : DigitsState). RefusesPiece room t piece old ShortBuf) (fresh_is s p.kind p.none p.goes) (fresh_refused room old piece gained p.some p.spelled full)
 
 pub pairs_read : (s : DigitsState) (piece new : List ℕ) (r : Option ℕ) → s.kind ≡ Hex → s.ended ≡ false → s.begun ≡ [] → (length piece ≡ 0 → ⊥)
     → MatchOption r ((v : List ℕ) → SpellsDigits base16 piece v → ⊥) (λ n. SpellsDigits base16 piece (take n new) × (n ≤ length new)) → IfSome r (λ n. AreWholePairs s piece (take n new) × (n ≤ length new))

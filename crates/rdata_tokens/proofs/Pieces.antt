@@ -10,7 +10,7 @@ use Rattle.dns_codec.specs.Bits.{digits, filled, joined, digits_from_bits}
 use Rattle.dns_codec.specs.Base.{padded, encoded}
 use Rattle.dns_codec.proofs.Encoding.{mod_front}
 use Rattle.rdata_tokens.specs.Spelled.{SpellsDigits, opens_group, base_of, illegal}
-use Rattle.rdata_tokens.specs.Reading.{DigitsState, HasRead, AcceptsPiece, MayGain, FollowsPadding, RefusesPiece}
+use Rattle.rdata_tokens.specs.Reading.{DigitsState, HasRead, AcceptsPiece, MayGain, BeginsToGain, FollowsPadding, RefusesPiece}
 use Rattle.rdata_tokens.specs.declared.kind.DigitsKind.{DigitsKind}
 use Rattle.rdata_tokens.specs.declared.kind.DigitsKind.TheVariants.{Hex, Base64}
 use Rattle.rdata_values.specs.declared.error.ErrorKind.TheVariants.{ShortBuf}
@@ -280,6 +280,28 @@ apart_behind a b (x ∷ p) q m t some apart (inr f) =
           apart (inr (goes, (over.0, g.1, split.later, over.3, g.4, split.back, later)))
     ]
 
+-- a beginning of the second piece, after the first
+begins_behind : (a b : DigitsState) (p q m w : List ℕ) → AcceptsPiece a p m b → BeginsToGain b q w → BeginsToGain a (p ++ q) (m ++ w)
+begins_behind a b [] q m w t g =
+    let none = t.none refl in
+    subst (λ xs. BeginsToGain a q (xs ++ w)) (sym none.0) (subst (λ s. BeginsToGain s q w) none.1 g)
+begins_behind a b (x ∷ p) q m w t g =
+    let read = t.read (cons_not_nil x p) in
+    let h = read.1 in
+    let front : List ℕ = g.1 in
+    let rest : List ℕ = g.2 in
+    let text : a.begun ++ ((x ∷ p) ++ front) ≡ h.groups ++ (b.begun ++ front) = moved h.groups b.begun a.begun (x ∷ p) front h.split in
+    let closed : opens_group (base_of b.kind) m ≡ false = sym h.ended ∙ g.0 in
+    let both = spells_joined b.kind h.groups (b.begun ++ front) m w h.spelled closed g.4 in
+    let all : SpellsDigits (base_of b.kind) (a.begun ++ ((x ∷ p) ++ front)) (m ++ w) = subst (λ z. SpellsDigits (base_of b.kind) z (m ++ w)) (sym text) both in (
+      read.0,
+      (x ∷ p) ++ front,
+      rest,
+      ap (λ z. (x ∷ p) ++ z) g.3 ∙ sym (append_assoc (x ∷ p) front rest),
+      subst (λ k. SpellsDigits (base_of k) (a.begun ++ ((x ∷ p) ++ front)) (m ++ w)) t.kept all,
+      omega (arith, g.5, length-append m w),
+    )
+
 -- what rejects a piece rejects it with more after it
 pub refuses_front : (room : Room) (s : DigitsState) (q r old : List ℕ) (e : ErrorKind) → RefusesPiece room s q old e → RefusesPiece room s (q ++ r) old e
 refuses_front room s q r old e h = record {
@@ -289,7 +311,12 @@ refuses_front room s q r old e h = record {
     | inr (inl bad) ↦ inr (inl (bad.0, apart_front room s q r old e h (λ short. never_illegal s.kind (sym bad.0 ∙ short)) bad.1))
     | inr (inr f) ↦ inr (inr (f.0, follows_more s q r f.1))
   ];
-  lacks = λ short v g. h.lacks short v (shorter s q r v g);
+  exceeds = λ short. (
+      let x = h.exceeds short in
+      let front : List ℕ = x.1.1 in
+      let rest : List ℕ = x.1.2 in
+      (x.0, (x.1.0, front, rest ++ r, ap (λ t. t ++ r) x.1.3 ∙ append_assoc front rest r, x.1.4, x.1.5), x.2)
+      );
   none = λ other v g. h.none other v (shorter s q r v g);
 }
 
@@ -302,12 +329,11 @@ refuses_behind room a b p q m old new e t is h = record {
     | inr (inl bad) ↦ inr (inl (bad.0 ∙ ap illegal t.kept, apart_behind a b p q m t h.some bad.1))
     | inr (inr f) ↦ inr (inr (f.0, follows_behind a b p q m t h.some f.1))
   ];
-  lacks = λ short v g. (
-      let on = gains_on a b p q m v t h.some g in
-      let lacks = h.lacks short on.0 on.1 in
+  exceeds = λ short. (
+      let x = h.exceeds short in
+      let w : List ℕ = x.0 in
       let sum : length new ≡ length old + length m = ap length is ∙ length-append old m in
-      let whole : length v ≡ length m + length on.0 = ap length on.2 ∙ length-append m on.0 in
-      omega (arith, lacks, sum, whole)
+      (m ++ w, begins_behind a b p q m w t x.1, omega (arith, x.2, sum, length-append m w))
       );
   none = λ other v g. (
       let on = gains_on a b p q m v t h.some g in

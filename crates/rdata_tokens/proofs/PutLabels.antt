@@ -1,15 +1,14 @@
 -- The labels of a text that are written at the start of octets.
-use Rattle.std.proofs.Common.{ℕ, zero, suc, ◌≡◌, ◌+◌, ◌-◌, ◌<◌, ◌≤◌, Bool, true, false, List, [], ◌∷◌, ◌++◌, length, take, drop, get_or, refl, sym, ap, subst, ◌∙◌, arith}
+use Rattle.std.proofs.Common.{ℕ, zero, suc, ◌≡◌, ◌+◌, ◌-◌, ◌<◌, ◌≤◌, Bool, true, false, List, [], ◌∷◌, ◌++◌, length, take, drop, get_or, refl, sym, ap, subst, ◌∙◌, arith, inl, append-nil}
 use Rattle.std.specs.Prelude.{set, IsTrue}
 use Rattle.std.proofs.lemmas.List.{length-drop, drop-drop, drop-set, drop-set-lt, take-set, take-append-le, drop-append-le, get_or_append_left}
 use Rattle.std.proofs.Math.Seq.{take-add}
 use Rattle.dns_octets.specs.Room.{Room}
-use Rattle.dns_wire.specs.Wire.{wire_length}
-use Rattle.dns_wire.proofs.Wires.{length_wire}
+use Rattle.dns_octets.specs.Appending.{ExceedsRoom}
+use Rattle.dns_wire.specs.Wire.{wire}
 use Rattle.rdata_tokens.specs.Spelling.{SpellsOctetList}
-use Rattle.rdata_tokens.specs.NameSpelling.{OpensLabel, part_labels, GainsLabels, LacksRoomForLabels}
+use Rattle.rdata_tokens.specs.NameSpelling.{OpensLabel, part_labels, GainsLabels, BeginsWithLabels}
 use Rattle.rdata_tokens.proofs.LabelParts.{Appended, NextLabel, plain_opens, next_label, part_spells, rest_is, ends_open, ends_dotted, goes_on_dotted}
-use Rattle.rdata_tokens.proofs.NameReadings.{parts_once}
 
 -- the labels before an index are in wire format, and after one octet comes the text from there on
 pub record LabelsPut (text wire : List ℕ) (start : ℕ) : Type 0 where
@@ -132,12 +131,23 @@ put_more text own wire start count e i l within dot on long =
           ∙ ap (λ r. r ++ i.tail) (behind text start count);
     }
 
--- if they don't fit, the text spells no labels that fit
+-- they don't fit
 pub labels_lack : (room : Room) (text old put : List ℕ) (count : ℕ) (is_absolute : Bool) → GainsLabels text [] put count is_absolute
-    → (length put ≤ room.fits - length old → IsTrue false) → LacksRoomForLabels room text old
-labels_lack room text old put count is_absolute g short = λ all last spelled.
-    let full : length put ≤ room.fits - length old → ⊥ = (λ p. let q = short p in cc) in
-    let same = parts_once text g.parts all g.last last g.spelled spelled in
-    let long : wire_length (part_labels all last) ≡ wire_length (part_labels g.parts g.last) =
-    ap (λ p. wire_length (part_labels p last)) same.0 ∙ ap (λ l. wire_length (part_labels g.parts l)) same.1 in
-    omega (arith, full, long, ap length g.gained, length_wire (part_labels g.parts g.last))
+    → (length put ≤ room.fits - length old → IsTrue false) → ExceedsRoom room (BeginsWithLabels text) old
+labels_lack room text old put count is_absolute g short =
+    let full : length put ≤ room.fits - length old → ⊥ = (λ p. let q = short p in cc) in (
+      wire (part_labels g.parts g.last),
+      record {
+        front = text;
+        rest = [];
+        whole = sym (append-nil text);
+        ends = inl refl;
+        parts = g.parts;
+        last = g.last;
+        spelled = g.spelled;
+        some = g.some;
+        fits = omega (arith, g.fits, g.count_is);
+        octets_are = refl;
+      },
+      omega (arith, full, ap length g.gained),
+    )

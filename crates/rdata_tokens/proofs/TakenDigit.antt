@@ -1,14 +1,14 @@
 -- One digit after those of the group begun.
-use Rattle.std.proofs.Common.{◌≡◌, ℕ, ◌+◌, ◌-◌, ◌%◌, ◌<◌, ◌≤◌, true, false, List, [], ◌∷◌, ◌++◌, length, take, refl, sym, ap, subst, ◌∙◌, arith, inl, inr, append-nil, length-append}
+use Rattle.std.proofs.Common.{◌≡◌, ℕ, ◌+◌, ◌-◌, ◌%◌, ◌<◌, ◌≤◌, true, false, List, [], ◌∷◌, ◌++◌, length, take, refl, sym, ap, subst, ◌∙◌, arith, inl, inr, append-nil, length-append, append_assoc}
 use Rattle.std.specs.Prelude.{Result, Ok, Err, IsOk, is_err}
 use Rattle.dns_octets.specs.Room.{Room}
 use Rattle.rdata_tokens.specs.Spelled.{SpellsDigits, opens_group, base_of, illegal}
-use Rattle.rdata_tokens.specs.Reading.{DigitsState, AcceptsPiece, RefusesPiece}
+use Rattle.rdata_tokens.specs.Reading.{DigitsState, AcceptsPiece, MayGain, BeginsToGain, RefusesPiece}
 use Rattle.rdata_tokens.specs.declared.kind.DigitsKind.{DigitsKind}
 use Rattle.rdata_tokens.specs.declared.kind.DigitsKind.TheVariants.{Hex, Base64}
 use Rattle.rdata_values.specs.declared.error.ErrorKind.{ErrorKind}
 use Rattle.rdata_values.specs.declared.error.ErrorKind.TheVariants.{ShortBuf}
-use Rattle.rdata_tokens.proofs.Spelling.{known, spells_once, spells_split}
+use Rattle.rdata_tokens.proofs.Spelling.{known, spells_once, spells_split, spelled_whole}
 use Rattle.rdata_tokens.proofs.Pieces.{never_illegal, apart_digit, cons_not_nil, begins, closes, takes_some, held_length}
 
 pub held_within : (k : DigitsKind) (held : List ℕ) (count : ℕ) → count < (base_of k).group → length held ≡ 4 → count < length held
@@ -56,24 +56,31 @@ least_on k xs (y ∷ ys) u v whole s t =
     let sum = ap length split.parts ∙ length-append split.first split.later in
     omega (arith, same, sum)
 
+-- a beginning of a piece gains no more than the piece and what may follow it
+pub least_begun : (s : DigitsState) (piece w v : List ℕ) → BeginsToGain s piece w → MayGain s piece v → length w ≤ length v
+least_begun s piece w v b g =
+    let front : List ℕ = b.1 in
+    let rest : List ℕ = b.2 in
+    let more : List ℕ = g.1.0 in
+    let text : (s.begun ++ piece) ++ more ≡ (s.begun ++ front) ++ (rest ++ more) =
+    ap (λ p. (s.begun ++ p) ++ more) b.3 ∙ (ap (λ t. t ++ more) (sym (append_assoc s.begun front rest)) ∙ append_assoc (s.begun ++ front) rest more) in
+    least_on s.kind (s.begun ++ front) (rest ++ more) w v (spelled_whole s.kind (s.begun ++ front) w b.4) b.4 (subst (λ t. SpellsDigits (base_of s.kind) t v) text g.1.1)
+
 module _ (room : Room) (s : DigitsState) (digit : ℕ) (old : List ℕ) where
   pub digit_illegal : (e : ErrorKind) → e ≡ illegal s.kind → s.ended ≡ false → length (s.begun ++ digit ∷ []) ≤ (base_of s.kind).group → ((rest v : List ℕ) → SpellsDigits (base_of s.kind) ((s.begun ++ digit ∷ []) ++ rest) v → ⊥) → RefusesPiece room s (digit ∷ []) old e
   digit_illegal e is goes few never = record {
     some = cons_not_nil digit [];
     why = inr (inl (is, apart_digit s digit goes few));
-    lacks = λ short. absurd (never_illegal s.kind (sym is ∙ short));
+    exceeds = λ short. absurd (never_illegal s.kind (sym is ∙ short));
     none = λ other v g. never g.1.0 v g.1.1;
   }
 
-  pub digit_short : (u : List ℕ) → length (s.begun ++ digit ∷ []) % (base_of s.kind).group ≡ 0 → SpellsDigits (base_of s.kind) (s.begun ++ digit ∷ []) u → (length u ≤ room.fits - length old → ⊥)
+  pub digit_short : (u : List ℕ) → s.ended ≡ false → length (s.begun ++ digit ∷ []) % (base_of s.kind).group ≡ 0 → SpellsDigits (base_of s.kind) (s.begun ++ digit ∷ []) u → (length u ≤ room.fits - length old → ⊥)
       → RefusesPiece room s (digit ∷ []) old ShortBuf
-  digit_short u whole spelled full = record {
+  digit_short u goes whole spelled full = record {
     some = cons_not_nil digit [];
     why = inl refl;
-    lacks = λ short v g. (
-        let least = least_on s.kind (s.begun ++ digit ∷ []) g.1.0 u v whole spelled g.1.1 in
-        omega (arith, least, full)
-        );
+    exceeds = λ short. (u, (goes, digit ∷ [], [], refl, spelled, omega (arith, full)), omega (arith, full));
     none = λ other. absurd (other refl);
   }
 

@@ -1,5 +1,5 @@
 -- Printing and reading together.
-use Rattle.std.proofs.Common.{◌≡◌, ◌≢◌, ℕ, ◌+◌, ◌*◌, ◌/◌, ◌<◌, List, ◌++◌, length, ap, sym, ◌∙◌, inl, inr}
+use Rattle.std.proofs.Common.{◌≡◌, ◌≢◌, ℕ, ◌+◌, ◌*◌, ◌/◌, ◌<◌, List, ◌++◌, length, ap, sym, ◌∙◌, inl, inr, arith}
 use Rattle.dns_octets.specs.Room.{Room}
 use Rattle.dns_codec.specs.Base.{base16, base32hex, base64}
 use Rattle.rdata_tokens.specs.Spelled.{base_of, SpellsDigits}
@@ -8,6 +8,7 @@ use Rattle.rdata_values.specs.declared.error.ErrorKind.{ErrorKind}
 use Rattle.rdata_values.specs.declared.error.ErrorKind.TheVariants.{ShortBuf}
 use Rattle.rdata_tokens.proofs.Spelling.{fold_length, size16, size32, size64}
 use Rattle.rdata_tokens.proofs.Pieces.{gains_next, is_short}
+use Rattle.rdata_tokens.proofs.TakenDigit.{least_begun}
 
 pub hex_digits : (text v : List ℕ) → SpellsDigits base16 text v → length text ≡ 2 * length v
 hex_digits text v s = sym (fold_length base16 text) ∙ (ap length s.text_is ∙ size16 v)
@@ -24,7 +25,7 @@ pub only_room : (room : Room) (s : DigitsState) (text piece rest octets read old
 only_room room s text piece rest octets read old e spelled h r =
     let next = gains_next s text piece rest octets read spelled h r.some in
     elim (is_short e) [
-      | inl short ↦ (short, (next.0, next.2, r.lacks short next.0 next.1))
+      | inl short ↦ (short, (next.0, next.2, (let x = r.exceeds short in omega (arith, x.2, least_begun s piece x.0 next.0 x.1 next.1))))
       | inr other ↦ absurd (r.none other next.0 next.1)
     ]
 

@@ -2,7 +2,7 @@
 use Rattle.std.proofs.Common.{true, false, ◌≡◌, ◌≢◌, ℕ, ◌+◌, ◌-◌, ◌<◌, ◌≤◌, List, [], ◌∷◌, ◌++◌, length, take, refl, sym, ap, subst, ◌∙◌, arith, inl, inr, append-nil, add-one, length-take-le}
 use Rattle.std.specs.Prelude.{Result, Ok, Err, OnOk, IfErr, MatchResult}
 use Rattle.dns_octets.specs.Room.{Room}
-use Rattle.dns_octets.specs.Appending.{LacksRoom}
+use Rattle.dns_octets.specs.Appending.{ExceedsRoom}
 use Rattle.dns_codec.specs.Base.{base32hex}
 use Rattle.rdata_tokens.specs.Spelled.{SpellsDigits, base_of, unfinished}
 use Rattle.rdata_tokens.specs.Reading.{DigitsState, HasRead, FollowsPadding, PaddedBefore, RefusesPiece}
@@ -45,12 +45,11 @@ module _ (room : Room) (s : DigitsState) (text old : List ℕ) (e : ErrorKind) (
       | inr (inl bad) ↦ inr (inr (inl (bad.0, unpadded_here bad.1), ends (λ short. never_illegal s.kind (sym bad.0 ∙ short))))
       | inr (inr f) ↦ inr (inr (inr (f.0, padded_here f.1), ends (λ short. let bad : TrailingBase64 ≡ ShortBuf = sym f.0 ∙ short in cc bad)))
     ];
-    lacks = λ short octets spelled. (
-        let all : SpellsDigits (base_of s.kind) (text ++ []) octets = subst (λ t. SpellsDigits (base_of s.kind) t octets) (sym (append-nil text)) spelled in
-        let next = gains_next s [] text [] octets [] all h r.some in
-        let lacks = r.lacks short next.0 next.1 in
-        let same : length octets ≡ length next.0 = ap length next.2 in
-        omega (arith, lacks, same)
+    exceeds = λ short. (
+        let x = r.exceeds short in
+        let front : List ℕ = x.1.1 in
+        let spelled : SpellsDigits (base_of s.kind) (s.begun ++ front) x.0 = x.1.4 in
+        (x.0, (front, x.1.2, x.1.3, subst (λ (b : List ℕ). SpellsDigits (base_of s.kind) (b ++ front) x.0) fresh_begun spelled, x.1.5), x.2)
         );
     none = λ other octets spelled. ends other ([], octets, subst (λ t. SpellsDigits (base_of s.kind) t octets) (sym (append-nil text)) spelled);
   }
@@ -61,7 +60,7 @@ module _ (room : Room) (s : DigitsState) (text old : List ℕ) (e : ErrorKind) (
 pub token_unfinished : (k : DigitsKind) (room : Room) (text old : List ℕ) (e : ErrorKind) → e ≡ unfinished k → DigitsContinue k text → ((v : List ℕ) → SpellsDigits (base_of k) text v → ⊥) → RefusesToken k room text old e
 token_unfinished k room text old e is on never = record {
   why = inr (inl (is, on));
-  lacks = λ short. absurd (never_unfinished k (sym is ∙ short));
+  exceeds = λ short. absurd (never_unfinished k (sym is ∙ short));
   none = λ other. never;
 }
 
@@ -97,12 +96,8 @@ hash_wire text hash n spelled some within short =
     let len : length (take n hash) ≡ n = length-take-le n hash within in
     record { hash = take n hash; spelled = spelled; some = rw len some; short = rw len short; wire_is = rw len refl }
 
-pub hash_lacks : (room : Room) (text hash wire old : List ℕ) (n : ℕ) → SpellsDigits base32hex text (take n hash) → n ≤ length hash → wire ≡ n ∷ hash → (length (take (n + 1) wire) ≤ room.fits - length old → ⊥)
-    → LacksRoom room (SpellsHash text) old
-hash_lacks room text hash wire old n spelled within is full octets h =
-    let same : h.hash ≡ take n hash = spells_once base32hex (inr (inl refl)) text h.hash (take n hash) h.spelled spelled in
-    let len : length (take n hash) ≡ n = length-take-le n hash within in
+pub hash_exceeds : (room : Room) (text hash wire old : List ℕ) (n : ℕ) → SpellsDigits base32hex text (take n hash) → 0 < n → n ≤ length hash → n < 256 → wire ≡ n ∷ hash
+    → (length (take (n + 1) wire) ≤ room.fits - length old → ⊥) → ExceedsRoom room (SpellsHash text) old
+hash_exceeds room text hash wire old n spelled some within short is full =
     let slice : length (take (n + 1) wire) ≡ length (n ∷ take n hash) = ap length (wire_of n wire hash is) in
-    let all : length octets ≡ length (length h.hash ∷ h.hash) = ap length h.wire_is in
-    let size = ap length same in
-    omega (arith, full, slice, all, len, size)
+    (n ∷ take n hash, hash_wire text hash n spelled some within short, omega (arith, full, slice))

@@ -3,7 +3,7 @@ use Rattle.std.specs.Prelude.{ℕ, ◌≡◌, ◌≢◌, ◌<◌, ◌≤◌, tru
 use Rattle.std.specs.List.{list_all}
 use Rattle.std.specs.Char.{is_ascii_alphanumeric}
 use Rattle.dns_octets.specs.Room.{Room}
-use Rattle.dns_octets.specs.Appending.{LacksRoom}
+use Rattle.dns_octets.specs.Appending.{ExceedsRoom}
 use Rattle.rdata_tokens.specs.Spelling.{SpellsOctetList, AreOctetValues, SpellsToBadEscape}
 use Rattle.rdata_values.specs.declared.error.ErrorKind.{ErrorKind}
 use Rattle.rdata_values.specs.declared.error.ErrorKind.TheVariants.{BadEscape, LongString, BadTag, ShortBuf}
@@ -53,15 +53,15 @@ pub record AreSpelled (Is : List ℕ → Type 0) (Spells : List ℕ → List ℕ
 pub record AreSelfDelimiting (Is : List ℕ → Type 0) : Type 0 where
   pub width : (form rest : List ℕ) (found : Option ℕ) → Is form → FindsWidth Is (form ++ rest) found → found ≡ Some (length form)
 
--- why a character string was not appended
+-- why a character string was not appended. The text is read whole before an octet is appended
 abbrev pub RefusesString : Room → List ℕ → List ℕ → ErrorKind → Type 0
 RefusesString room text old BadEscape = SpellsToBadEscape text × ((octets : List ℕ) → ¬ SpellsOctetList text octets)
 RefusesString room text old LongString = (octets : List ℕ) × SpellsOctetList text octets × (255 < length octets)
-RefusesString room text old ShortBuf = LacksRoom room (SpellsString text) old
+RefusesString room text old ShortBuf = ExceedsRoom room (SpellsString text) old
 RefusesString room text old other = ⊥
 
 -- why a tag was not appended
 abbrev pub RefusesTag : Room → List ℕ → List ℕ → ErrorKind → Type 0
 RefusesTag room text old BadTag = ¬ IsTag text
-RefusesTag room text old ShortBuf = LacksRoom room (SpellsTag text) old
+RefusesTag room text old ShortBuf = ExceedsRoom room (SpellsTag text) old
 RefusesTag room text old other = ⊥

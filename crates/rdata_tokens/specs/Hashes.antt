@@ -6,7 +6,7 @@ use Rattle.rdata_tokens.specs.Spelled.{SpellsDigits}
 use Rattle.rdata_values.specs.declared.error.ErrorKind.{ErrorKind}
 use Rattle.rdata_values.specs.declared.error.ErrorKind.TheVariants.{LongHash, ShortBase32, IllegalBase32, ShortBuf}
 use Rattle.dns_octets.specs.Room.{Room}
-use Rattle.dns_octets.specs.Appending.{LacksRoom}
+use Rattle.dns_octets.specs.Appending.{ExceedsRoom}
 
 -- the first octet, or 0 if there is none
 abbrev pub first_octet : List ℕ → ℕ
@@ -27,10 +27,10 @@ pub record SpellsHash (text octets : List ℕ) : Type 0 where
   pub short : length hash < 256
   pub wire_is : octets ≡ length hash ∷ hash
 
--- a text is rejected: its octets don't surely fit after those that the target had, or it is not a hash
+-- a text is rejected: it is a hash that doesn't surely fit after the octets that the target had, or it is not a hash
 abbrev pub RefusesHash : Room → List ℕ → List ℕ → ErrorKind → Type 0
 RefusesHash room text old e =
-    ((e ≡ ShortBuf) × LacksRoom room (SpellsHash text) old)
+    ((e ≡ ShortBuf) × ExceedsRoom room (SpellsHash text) old)
     ⊎ ((e ≡ hash_refusal text) × ((octets : List ℕ) → SpellsHash text octets → ⊥))
 
 -- the octets begin with a whole salt, or with a whole hash of at least one octet

@@ -2,7 +2,7 @@
 use Rattle.std.specs.Prelude.{ℕ, ⊤, ◌≡◌, ◌≢◌, ◌⊎◌, ◌<◌, ◌≤◌, ◌+◌, ◌-◌, ◌==◌, ◌&&◌, not, Bool, true, false, List, [], ◌∷◌, ◌++◌, length, map, All, Option, Some, None}
 use Rattle.std.specs.List.{flat_map, list_all}
 use Rattle.dns_octets.specs.Room.{Room}
-use Rattle.dns_octets.specs.Appending.{LacksRoom}
+use Rattle.dns_octets.specs.Appending.{ExceedsRoom}
 use Rattle.dns_symbol.specs.Characters.{dot}
 use Rattle.dns_symbol.specs.Symbol.{spell}
 use Rattle.dns_symbol.specs.declared.symbol.Symbol.{Symbol}
@@ -105,7 +105,7 @@ abbrev pub RefusesFirstLabel : ℕ → List ℕ → ErrorKind → Type 0
 RefusesFirstLabel room text BadEscape = (open_part : List Symbol) × (rest : List ℕ) × OpensLabel text room open_part rest × BeginsBadEscape rest
 RefusesFirstLabel room text EmptyLabel = EndsLabel text
 RefusesFirstLabel room text LongLabel = (open_part : List Symbol) × (rest : List ℕ) × OpensLabel text room open_part rest × (length open_part ≡ max_label) × NextOctetIs rest
-RefusesFirstLabel room text LongName = (open_part : List Symbol) × (rest : List ℕ) × OpensLabel text room open_part rest × (room < length open_part + 2) × NextOctetIs rest
+RefusesFirstLabel room text LongName = (open_part : List Symbol) × (rest : List ℕ) × OpensLabel text room open_part rest × (length open_part < max_label) × (room < length open_part + 2) × NextOctetIs rest
 RefusesFirstLabel room text other = ⊥
 
 -- after labels that fit in a name comes one that is rejected; nothing after a dot is not a label that is rejected
@@ -117,9 +117,9 @@ pub record HasBadLabel (text : List ℕ) (why : ErrorKind) : Type 0 where
   pub no_end : rest ≡ [] → parts ≡ []
   pub refused : RefusesFirstLabel (max_relative - wire_length (part_labels parts [])) rest why
 
--- a relative name: the origin's labels follow
+-- a relative name whose own labels fit: the origin's follow
 abbrev pub IsRelative : List ℕ → Type 0
-IsRelative text = (text ≡ at_sign ∷ []) ⊎ ((parts : List (List Symbol)) × (last : List Symbol) × SpellsParts text parts last × (0 < length last))
+IsRelative text = (text ≡ at_sign ∷ []) ⊎ ((parts : List (List Symbol)) × (last : List Symbol) × SpellsParts text parts last × (0 < length last) × (wire_length (part_labels parts last) ≤ max_relative))
 
 -- the name is too long with the origin's labels
 abbrev pub IsLongWithOrigin : Option (List (List ℕ)) → List ℕ → Type 0
@@ -135,10 +135,27 @@ WhyNoName origin text LongName = HasBadLabel text LongName ⊎ IsLongWithOrigin 
 WhyNoName origin text NoOrigin = (origin ≡ None) × IsRelative text
 WhyNoName origin text other = ⊥
 
--- why a name was not appended: no text of it, or the octets of no name that is spelled surely fit
+-- a text begins with labels that fit in a name, up to a dot or the end, and these are their octets
+pub record BeginsWithLabels (text octets : List ℕ) : Type 0 where
+  pub front : List ℕ
+  pub rest : List ℕ
+  pub whole : text ≡ front ++ rest
+  pub ends : EndsLabel rest
+  pub parts : List (List Symbol)
+  pub last : List Symbol
+  pub spelled : SpellsParts front parts last
+  pub some : 0 < length (part_labels parts last)
+  pub fits : wire_length (part_labels parts last) ≤ max_relative
+  pub octets_are : octets ≡ wire (part_labels parts last)
+
+-- the octets of the first labels of a text, which is not the origin's sign alone, or those of the whole name that it spells
+abbrev pub BeginsName : Option (List (List ℕ)) → List ℕ → List ℕ → Type 0
+BeginsName origin text octets = ((text ≢ at_sign ∷ []) × BeginsWithLabels text octets) ⊎ SpellsName origin text octets
+
+-- why a name was not appended: a beginning of it doesn't surely fit, or the text spells none
 abbrev pub RefusesName : Room → Option (List (List ℕ)) → List ℕ → List ℕ → ErrorKind → Type 0
 RefusesName room origin text old why =
-    ((why ≡ ShortBuf) × LacksRoom room (SpellsName origin text) old) ⊎ (WhyNoName origin text why × ((form : List ℕ) → ¬ SpellsName origin text form))
+    ((why ≡ ShortBuf) × ExceedsRoom room (BeginsName origin text) old) ⊎ (WhyNoName origin text why × ((form : List ℕ) → ¬ SpellsName origin text form))
 
 -- the labels of a text were appended, in `count` octets, and a dot followed the last label or not
 pub record GainsLabels (text old new : List ℕ) (count : ℕ) (is_absolute : Bool) : Type 0 where
@@ -150,7 +167,3 @@ pub record GainsLabels (text old new : List ℕ) (count : ℕ) (is_absolute : Bo
   pub count_is : count ≡ wire_length (part_labels parts last)
   pub fits : count ≤ max_relative
   pub ends : is_absolute ≡ (length last == 0)
-
--- the octets of labels that a text spells don't surely fit after old ones
-abbrev pub LacksRoomForLabels : Room → List ℕ → List ℕ → Type 0
-LacksRoomForLabels room text old = (parts : List (List Symbol)) (last : List Symbol) → SpellsParts text parts last → room.fits < length old + wire_length (part_labels parts last)

@@ -1,7 +1,7 @@
 -- Digits that arrive in pieces: the state between two pieces, and how a piece changes it.
 use Rattle.std.specs.Prelude.{ℕ, ◌≡◌, ◌≢◌, ◌<◌, ◌%◌, ◌⊎◌, Bool, true, false, List, [], ◌++◌, length, ◌+◌, Result, MatchResult, take}
 use Rattle.dns_octets.specs.Room.{Room}
-use Rattle.dns_octets.specs.Appending.{LacksRoom}
+use Rattle.dns_octets.specs.Appending.{ExceedsRoom}
 use Rattle.dns_codec.specs.Base.{Base, base16}
 use Rattle.rdata_tokens.specs.Spelled.{SpellsDigits, opens_group, base_of, illegal, unfinished}
 use Rattle.rdata_tokens.specs.declared.kind.DigitsKind.{DigitsKind}
@@ -38,6 +38,10 @@ pub record AcceptsPiece (old : DigitsState) (piece gained : List ℕ) (new : Dig
 abbrev pub MayGain : DigitsState → List ℕ → List ℕ → Type 0
 MayGain s piece gained = (s.ended ≡ false) × ((rest : List ℕ) × SpellsDigits (base_of s.kind) (s.begun ++ piece ++ rest) gained)
 
+-- the octets that the digits begun and a beginning of a piece spell, of which there are some
+abbrev pub BeginsToGain : DigitsState → List ℕ → List ℕ → Type 0
+BeginsToGain s piece gained = (s.ended ≡ false) × (front : List ℕ) × (rest : List ℕ) × (piece ≡ front ++ rest) × SpellsDigits (base_of s.kind) (s.begun ++ front) gained × (0 < length gained)
+
 -- something follows a padded group of a text
 abbrev pub PaddedBefore : Base → List ℕ → Type 0
 PaddedBefore b text = (front rest octets : List ℕ) × (text ≡ front ++ rest) × (rest ≢ []) × SpellsDigits b front octets × (opens_group b octets ≡ true)
@@ -47,12 +51,12 @@ abbrev pub FollowsPadding : DigitsState → List ℕ → Type 0
 FollowsPadding s piece = ((s.ended ≡ true) × (piece ≢ []))
     ⊎ ((s.ended ≡ false) × PaddedBefore (base_of s.kind) (s.begun ++ piece))
 
--- a piece that is not empty is rejected: its octets don't surely fit after those that the target
--- had, or no continuation of it has octets
+-- a piece that is not empty is rejected: the octets of a beginning of it don't surely fit after those that the
+-- target had, or no continuation of it has octets
 pub record RefusesPiece (room : Room) (s : DigitsState) (piece old : List ℕ) (error : ErrorKind) : Type 0 where
   pub some : piece ≢ []
   pub why : (error ≡ ShortBuf) ⊎ (((error ≡ illegal s.kind) × (FollowsPadding s piece → ⊥)) ⊎ ((error ≡ TrailingBase64) × FollowsPadding s piece))
-  pub lacks : error ≡ ShortBuf → LacksRoom room (MayGain s piece) old
+  pub exceeds : error ≡ ShortBuf → ExceedsRoom room (BeginsToGain s piece) old
   pub none : error ≢ ShortBuf → (gained : List ℕ) → MayGain s piece gained → ⊥
 
 -- a piece was read, and the octets that were gained are appended
@@ -64,10 +68,10 @@ abbrev pub AppendsBlocks : DigitsKind → List ℕ → List ℕ → List ℕ →
 AppendsBlocks kind digits old new n = (n < length digits) × (length (take n digits) % (base_of kind).group ≡ 0)
     × ((gained : List ℕ) × SpellsDigits (base_of kind) (take n digits) gained × (opens_group (base_of kind) gained ≡ false) × (new ≡ old ++ gained))
 
--- the octets of such groups don't surely fit
+-- the octets of such groups, of which there are some, don't surely fit
 abbrev pub LacksBlocks : DigitsKind → List ℕ → Room → List ℕ → Type 0
 LacksBlocks kind digits room old = (n : ℕ) × (n < length digits) × (length (take n digits) % (base_of kind).group ≡ 0)
-    × ((gained : List ℕ) × SpellsDigits (base_of kind) (take n digits) gained × (opens_group (base_of kind) gained ≡ false) × (room.fits < length old + length gained))
+    × ((gained : List ℕ) × SpellsDigits (base_of kind) (take n digits) gained × (opens_group (base_of kind) gained ≡ false) × (0 < length gained) × (room.fits < length old + length gained))
 
 -- no group is begun, and a piece that is not empty is hexadecimal digits, which spell these octets
 pub record AreWholePairs (s : DigitsState) (piece octets : List ℕ) : Type 0 where

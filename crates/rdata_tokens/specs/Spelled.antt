@@ -15,6 +15,10 @@ pub record SpellsDigits (b : Base) (text octets : List ℕ) : Type 0 where
   pub bytes : All (λ o. o < 256) octets
   pub text_is : case_folded b text ≡ encoded b octets
 
+-- a beginning of a text spells these octets, of which there are some
+abbrev pub BeginsWithDigits : Base → List ℕ → List ℕ → Type 0
+BeginsWithDigits b text octets = (front : List ℕ) × (rest : List ℕ) × (text ≡ front ++ rest) × SpellsDigits b front octets × (0 < length octets)
+
 -- the octets end within a group, which is then padded in base 64
 abbrev pub opens_group : Base → List ℕ → Bool
 opens_group b octets = not (8 * length octets % (b.width * b.group) == 0)

@@ -1,12 +1,12 @@
 //! Parses names in presentation format (RFC 1035 section 5.1).
 ghost use Rattle.std.specs.Prelude.{ℕ, ◌≡◌, ◌≢◌, ◌⊎◌, ◌+◌, ◌<◌, ◌≤◌, List, [], ◌∷◌, length, take, drop, slice_index, MatchBool, MatchResult, IfOk, IfErr, IfSome, IsTrue, OnOk, OnErr};
 ghost use Rattle.std.specs.Option.{option_copied};
-ghost use Rattle.dns_octets.specs.Appending.{Extends, Gains};
+ghost use Rattle.dns_octets.specs.Appending.{ExceedsRoom, Extends, Gains};
 ghost use Rattle.std.specs.List.{flat_map};
 ghost use Rattle.dns_symbol.specs.Characters.{backslash, dot};
 ghost use Rattle.dns_symbol.specs.Symbol.{spell};
 ghost use Rattle.dns_symbol.specs.declared.symbol.Symbol.{Symbol};
-ghost use Rattle.rdata_tokens.specs.NameSpelling.{SpellsName, OpensLabel, EndsLabel, RefusesFirstLabel, HasBadLabel, RefusesName, GainsLabels, LacksRoomForLabels};
+ghost use Rattle.rdata_tokens.specs.NameSpelling.{SpellsName, OpensLabel, EndsLabel, RefusesFirstLabel, HasBadLabel, BeginsWithLabels, RefusesName, GainsLabels};
 ghost use Rattle.rdata_values.specs.declared.error.ErrorKind.TheVariants.{ShortBuf};
 
 use crate::spelled::{append_counted, first_spelled};
@@ -178,7 +178,7 @@ fn put_labels(text: &[u8], wire: &mut [u8; PUT]) -> Option<Labels>
 /// Appends the labels of a text.
 fn append_labels<B: OctetsBuilder>(text: &[u8], target: &mut B) -> Result<Labels, ErrorKind>
     ensures ok { IfOk result (λ l. GainsLabels text.now (B.octets target.old) (B.octets target.new) l.count l.is_absolute) }
-    ensures err { IfErr result (λ e. ((e ≡ ShortBuf) × LacksRoomForLabels B.room text.now (B.octets target.old)) ⊎ HasBadLabel text.now e) }
+    ensures err { IfErr result (λ e. ((e ≡ ShortBuf) × ExceedsRoom B.room (BeginsWithLabels text.now) (B.octets target.old)) ⊎ HasBadLabel text.now e) }
     ensures extends { OnErr result (Extends (B.octets target.old) (B.octets target.new)) }
 {
     // The octets after the text are dots, which end its last label.
@@ -193,7 +193,7 @@ fn append_labels<B: OctetsBuilder>(text: &[u8], target: &mut B) -> Result<Labels
 /// Appends the labels of a text one by one.
 fn append_each<B: OctetsBuilder>(text: &[u8], target: &mut B) -> Result<Labels, ErrorKind>
     ensures ok { IfOk result (λ l. GainsLabels text.now (B.octets target.old) (B.octets target.new) l.count l.is_absolute) }
-    ensures err { IfErr result (λ e. ((e ≡ ShortBuf) × LacksRoomForLabels B.room text.now (B.octets target.old)) ⊎ HasBadLabel text.now e) }
+    ensures err { IfErr result (λ e. ((e ≡ ShortBuf) × ExceedsRoom B.room (BeginsWithLabels text.now) (B.octets target.old)) ⊎ HasBadLabel text.now e) }
     ensures extends { OnErr result (Extends (B.octets target.old) (B.octets target.new)) }
 {
     let mut rest = text;

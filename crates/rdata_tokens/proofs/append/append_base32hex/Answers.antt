@@ -1,7 +1,7 @@
 use Rattle.std.proofs.Common.{◌∙◌, ◌<◌, ◌++◌, ◌∷◌, List, ℕ, ap, sym, refl, inl, inr, take, arith}
 use Rattle.dns_codec.proofs.Fronts.{at_no_err}
 use Rattle.rdata_tokens.proofs.TakenDigit.{not_ok}
-use Rattle.rdata_tokens.proofs.TokenLemmas.{hash_absent, hash_empty, hash_wire, hash_lacks, wire_of}
+use Rattle.rdata_tokens.proofs.TokenLemmas.{hash_absent, hash_empty, hash_wire, hash_exceeds, wire_of}
 use Rattle.rdata_tokens.proofs.append.append_base32hex.Goals as goal
 use Rattle.rdata_tokens.proofs.append.append_base32hex.Goals.{in_default-via-in-Some+else-count-gt0, in_default-via-in_default}
 
@@ -17,9 +17,12 @@ returns-in_default-clause-err g c = inr (
 pub returns-then-is_err-clause-err : goal.returns-then-is_err-clause-err
 returns-then-is_err-clause-err g c =
     let read = c.in-Some.ensures in
+    let n : ℕ = c.in-Some.count in
+    let size = c.read_base32hex.auto.octets in
+    let short : n < 256 = omega (arith, read.1, size) in
     inl (
       refl,
-      hash_lacks g.B.OctetsBuilder.room c.args.text.now c.read_base32hex.new.octets c.with_length-wire.result (g.B.AsOctets.octets c.args.target.now) c.in-Some.count read.0 read.1 c.with_length-wire.ensures
+      hash_exceeds g.B.OctetsBuilder.room c.args.text.now c.read_base32hex.new.octets c.with_length-wire.result (g.B.AsOctets.octets c.args.target.now) n read.0 c.if-count-gt0.true read.1 short c.with_length-wire.ensures
           (λ fits. not_ok c.append_slice.result c.if-is_err.ensures.value (c.append_slice.ensures.fits fits)),
     )
 

@@ -2,7 +2,7 @@ use Rattle.std.proofs.Common.{sym, length, arith, inl, inr}
 use Rattle.std.proofs.lemmas.Bool.{eqb-true, eqb-false}
 use Rattle.std.proofs.lemmas.Result.{err_from_is_err_and}
 use Rattle.dns_wire.proofs.Wires.{is_nil}
-use Rattle.rdata_tokens.proofs.LabelParts.{next_label, part_spells, lacks_labels, ends_open, ends_dotted, goes_on_dotted, behind_dot, lone_dot, some_behind}
+use Rattle.rdata_tokens.proofs.LabelParts.{next_label, part_spells, labels_exceed, ends_open, ends_dotted, goes_on_dotted, behind_dot, lone_dot, some_behind}
 use Rattle.rdata_tokens.proofs.names.append_each.Goals as goal
 
 pub returns-in_err-append_counted-clause-err : goal.returns-in_err-append_counted-clause-err
@@ -13,8 +13,8 @@ returns-in_err-append_counted-clause-err g c =
       | inl bad ↦ absurd (bad.1.1 _ (part_spells c.in_ok-label.label.text.now l.0 l.1.each l.3))
       | inr lacks ↦ inl (
         lacks.0,
-        lacks_labels g.B.OctetsBuilder.room c.args.text.now _ c.labels.rest.now _ c.in_ok-label.label.text.now c.in_ok-label.label.rest.now
-            c.labels.count c.in_ok-label.label.count l.0 c.labels.invariant l.1 l.3 l.4 l.5 lacks.1,
+        labels_exceed g.B.OctetsBuilder.room c.args.text.now _ c.labels.rest.now _ c.in_ok-label.label.text.now c.in_ok-label.label.rest.now
+            c.labels.count c.in_ok-label.label.count l.0 c.labels.invariant l.1 l.2 l.3 l.4 l.5 lacks.1,
       )
     ])
 

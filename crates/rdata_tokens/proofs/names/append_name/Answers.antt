@@ -10,6 +10,12 @@ returns-then-is_lone-clause-ok g c =
     let origin = option_copied c.args.origin in
     ended_gained origin c.args.text.now _ _ _ _ (alone origin c.args.text.now _ _ (root_spelled origin c.args.text.now c.if-is_lone.ensures)) c.in_ok-append_slice.ensures.ok
 
+pub returns-in_err-append_slice-clause-err : goal.returns-in_err-append_slice-clause-err
+returns-in_err-append_slice-clause-err g c =
+    let p = err_from_is_err_and c.from_residual.result c.from_residual.ensures.1 in
+    let origin = option_copied c.args.origin in
+    rw (p.1, p.2) (ended_lacks g.B.OctetsBuilder.room origin c.args.text.now _ _ _ (alone origin c.args.text.now _ _ (root_spelled origin c.args.text.now c.if-is_lone.ensures)) c.in_err-append_slice.ensures.fits)
+
 pub returns-in_default-clause-err : goal.returns-in_default-clause-err
 returns-in_default-clause-err g c =
     origin_lacking g.B.OctetsBuilder.room (option_copied c.args.origin) c.args.text.now _ (ap option_copied c.in_default.is) (inl c.if-is_lone-2.ensures)

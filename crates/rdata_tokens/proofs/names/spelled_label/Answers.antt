@@ -13,7 +13,7 @@ pub returns-then-count-room : goal.returns-then-count-room
 returns-then-count-room c =
     let i = c.loop-rest.invariant in
     let s = label_octet c.loop-rest.rest.now c.in_ok-first.first.rest.now c.in_ok-first.first.octet c.in_ok-first.ensures c.if-rest-ne46.true in
-    (i.0, c.loop-rest.rest.now, i.1, omega (arith, i.2, c.if-count-room.true), (s.0, c.in_ok-first.first.rest.now, s.1, s.2))
+    (i.0, c.loop-rest.rest.now, i.1, omega (arith, i.2, i.1.short, c.if-count-eq-MAX_LABEL.false), omega (arith, i.2, c.if-count-room.true), (s.0, c.in_ok-first.first.rest.now, s.1, s.2))
 
 pub loop-rest-smaller : goal.loop-rest-smaller
 loop-rest-smaller c =

@@ -2,7 +2,7 @@ use Rattle.std.proofs.Common.{◌∙◌, ◌≤◌, ◌+◌, ◌*◌, ◌/◌, �
 use Rattle.std.proofs.lemmas.List.{append_assoc}
 use Rattle.std.proofs.lemmas.Result.{err_from_is_err_and}
 use Rattle.rdata_tokens.proofs.Pieces.{zero_whole}
-use Rattle.rdata_tokens.proofs.Blocks.{no_blocks, block_end, least_min, more_blocks, front_whole, no_room}
+use Rattle.rdata_tokens.proofs.Blocks.{no_blocks, block_end, least_min, more_blocks, front_whole, no_room, some_room}
 use Rattle.rdata_tokens.proofs.reader.append_blocks.Goals as goal
 
 pub loop-at-init : goal.loop-at-init
@@ -21,7 +21,8 @@ returns-in_err-append_slice-clause-err g c =
     let on : at ≤ next = omega arith in
     let blocks = more_blocks c.args.kind c.args.digits.now at next gained more (record { spelled = before.2.1; closed = before.2.2 }) on read.0 read.2 in
     let full = no_room g.B.OctetsBuilder.room.fits (g.B.AsOctets.octets c.args.target.now) (g.B.AsOctets.octets c.loop-at.target) gained more before.2.3 (λ fits. cc (c.in_err-append_slice.ensures.fits fits)) in
-    rw p.1 (next, end.0, front_whole c.args.kind c.args.digits.now next end.0 end.1, (gained ++ more, blocks.spelled, blocks.closed, full))
+    let some = some_room g.B.OctetsBuilder.room.fits (g.B.AsOctets.octets c.loop-at.target) gained more (λ fits. cc (c.in_err-append_slice.ensures.fits fits)) in
+    rw p.1 (next, end.0, front_whole c.args.kind c.args.digits.now next end.0 end.1, (gained ++ more, blocks.spelled, blocks.closed, some, full))
 
 pub loop-at-preserved : goal.loop-at-preserved
 loop-at-preserved g c =

@@ -1,7 +1,7 @@
 use Rattle.std.proofs.Common.{[], ◌∷◌, arith}
 use Rattle.std.proofs.lemmas.Result.{err_from_is_err_and}
 use Rattle.rdata_tokens.proofs.Spellings.{has_bad_escape}
-use Rattle.rdata_tokens.proofs.Fronts.{run_front, front_length, appended_more, lacks_some}
+use Rattle.rdata_tokens.proofs.Fronts.{run_front, front_length, appended_more, exceeds_front}
 use Rattle.rdata_tokens.proofs.spelled.append_spelled.Goals as goal
 
 pub returns-in_err-append_slice-clause-err : goal.returns-in_err-append_slice-clause-err
@@ -9,7 +9,7 @@ returns-in_err-append_slice-clause-err g c =
     let p = err_from_is_err_and c.from_residual.result c.from_residual.ensures.1 in
     let i = c.loop-rest.invariant in
     let run = run_front c.loop-rest.rest.now c.plain_count-count.result c.plain_count-count.ensures.plain c.plain_count-count.ensures.within in
-    rw (p.1, p.2) (lacks_some g.B.OctetsBuilder.room c.args.text.now _ i.0 c.loop-rest.rest.now _ _ _ i.1 i.2 run c.in_err-append_slice.ensures.fits)
+    rw (p.1, p.2) (exceeds_front g.B.OctetsBuilder.room c.args.text.now _ i.0 c.loop-rest.rest.now _ _ _ i.1 i.2 run c.in_err-append_slice.ensures.fits)
 
 pub loop-rest-preserved-then-count-gt0 : goal.loop-rest-preserved-then-count-gt0
 loop-rest-preserved-then-count-gt0 g c =
@@ -28,7 +28,7 @@ pub returns-in_err-append_slice-2-clause-err : goal.returns-in_err-append_slice-
 returns-in_err-append_slice-2-clause-err g c =
     let p = err_from_is_err_and c.from_residual-in_err-append_slice-2.result c.from_residual-in_err-append_slice-2.ensures.1 in
     let i = c.loop-rest.invariant in
-    rw (p.1, p.2) (lacks_some g.B.OctetsBuilder.room c.args.text.now _ i.0 c.loop-rest.rest.now (c.in_ok-first.first.octet ∷ []) c.in_ok-first.first.rest.now _ i.1 i.2 c.in_ok-first.ensures c.in_err-append_slice-2.ensures.fits)
+    rw (p.1, p.2) (exceeds_front g.B.OctetsBuilder.room c.args.text.now _ i.0 c.loop-rest.rest.now (c.in_ok-first.first.octet ∷ []) c.in_ok-first.first.rest.now _ i.1 i.2 c.in_ok-first.ensures c.in_err-append_slice-2.ensures.fits)
 
 pub loop-rest-smaller : goal.loop-rest-smaller
 loop-rest-smaller g c =

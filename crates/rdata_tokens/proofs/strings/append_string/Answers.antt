@@ -15,4 +15,4 @@ pub returns-in_err-append_counted-clause-err : goal.returns-in_err-append_counte
 returns-in_err-append_counted-clause-err g c =
     let p = err_from_is_err_and c.from_residual-in_err-append_counted.result c.from_residual-in_err-append_counted.ensures.1 in
     let counted = c.in_ok-count.ensures in
-    rw (p.1, p.2) (string_refused g.B.OctetsBuilder.room c.args.text.now _ counted.0 c.in_ok-count.count _ counted.1 counted.2 c.in_err-append_counted.ensures.err)
+    rw (p.1, p.2) (string_refused g.B.OctetsBuilder.room c.args.text.now _ counted.0 c.in_ok-count.count _ counted.1 counted.2 (let short = c.if-count-gt-MOST.false in rw (← counted.2) short) c.in_err-append_counted.ensures.err)

@@ -52,7 +52,7 @@ returns-then-is_err-clause-err g c =
     let full : (base_of i.kind).group ≤ i.count + 1 = rw c.group.ensures at c.if-count-group.false in
     let whole = whole_group i.kind i.held i.count c.args.digit c.self.invariant.0 c.self.told full in
     subst (λ (s : DigitsState). RefusesPiece g.B.OctetsBuilder.room s (c.args.digit ∷ []) old ShortBuf) c.self.view_is
-    (digit_short g.B.OctetsBuilder.room s c.args.digit old u whole (subst (λ t. SpellsDigits (base_of i.kind) t u) text read.0)
+    (digit_short g.B.OctetsBuilder.room s c.args.digit old u c.if-self.false whole (subst (λ t. SpellsDigits (base_of i.kind) t u) text read.0)
     (λ fits. not_ok c.append_slice.result c.if-is_err.ensures.value (c.append_slice.ensures.fits fits)))
 
 pub returns-clause-ok : goal.returns-clause-ok

@@ -27,4 +27,4 @@ returns-in-Err-clause-err g c =
     let gained = read.3 in
     let old : List ℕ = g.B.AsOctets.octets c.args.target.now in
     subst (λ (s : DigitsState). RefusesPiece g.B.OctetsBuilder.room s c.args.digits.now old ShortBuf) c.self.view_is
-    (lacks_blocks s c.args.digits.now c.if-self.false none g.B.OctetsBuilder.room old read.0 gained.0 read.2 gained.1 (λ empty. let z = ap length empty in omega (arith, z, read.1)) gained.3)
+    (lacks_blocks s c.args.digits.now c.if-self.false none g.B.OctetsBuilder.room old read.0 gained.0 read.2 gained.1 (λ empty. let z = ap length empty in omega (arith, z, read.1)) gained.3 gained.4)
