@@ -23,15 +23,20 @@ use Rattle.rdata_tokens.specs.Spelled.{SpellsDigits}
 use Rattle.rdata_tokens.proofs.Spelling.{spells_once, printed_spells}
 use Rattle.rdata_tokens.specs.NameSpelling.{IsOrigin}
 use Rattle.rdata_tokens.proofs.NameLaws.{names_spelled}
+use Rattle.rdata_tokens.proofs.NameAnswers.{name_begun}
 use Rattle.rdata_tokens.proofs.NameReadings.{name_once}
+use Rattle.rdata_tokens.specs.Hashes.{SpellsHash}
 use Rattle.rdata_tokens.proofs.NameFronts.{names_in_front}
 use Rattle.rdata_tokens.proofs.FormLaws.{strings_spelled, strings_in_front, tags_spelled, tags_in_front}
 use Rattle.rdata_fields.specs.declared.field.Field.{Field}
-use Rattle.rdata_fields.specs.declared.field.Field.TheVariants.{Number8 as OfNumber8, Number16 as OfNumber16, Number32 as OfNumber32, Interval as OfInterval, Ipv4 as OfIpv4, Ipv6 as OfIpv6, RecordType as OfRecordType, SigType as OfSigType, Algorithm as OfAlgorithm, CertificateType as OfCertificateType, Eui48 as OfEui48, Eui64 as OfEui64, Time as OfTime, Locator as OfLocator, String as OfString, PsdnAddress as OfPsdnAddress, Tag as OfTag, Salt as OfSalt, Hash as OfHash, Name as OfName}
+use Rattle.rdata_fields.specs.declared.field.Field.TheVariants.{Number8 as OfNumber8, Number16 as OfNumber16, Number32 as OfNumber32, Interval as OfInterval, Ipv4 as OfIpv4, Ipv6 as OfIpv6, RecordType as OfRecordType, SigType as OfSigType, Algorithm as OfAlgorithm, CertificateType as OfCertificateType, SyncScheme as OfSyncScheme, Eui48 as OfEui48, Eui64 as OfEui64, Time as OfTime, Locator as OfLocator, String as OfString, PsdnAddress as OfPsdnAddress, Tag as OfTag, Salt as OfSalt, Hash as OfHash, Name as OfName}
 use Rattle.rdata_fields.specs.Fields.{field_form}
-use Rattle.rdata_fields.specs.Forms.{IsFieldForm, IsPsdnAddress, IsWireHash, IsWirePsdnAddress, word_form, string_form, psdn_address_form, tag_form, salt_form, hash_form, name_form}
+use Rattle.rdata_fields.specs.Forms.{IsFieldForm, IsPsdnAddress, IsWireHash, IsWirePsdnAddress, SpellsWireSalt, word_form, string_form, psdn_address_form, tag_form, salt_form, hash_form, name_form}
 use Rattle.rdata_fields.specs.Words.{AreOctetsOf, IsWordKind}
-use Rattle.rdata_fields.specs.WordLaws.{number8_is_kind, number16_is_kind, number32_is_kind, interval_is_kind, ipv4_is_word, ipv6_is_word, type_is_word, sig_type_is_word, algorithm_is_word, certificate_is_word, eui48_is_word, eui64_is_word, date_is_word, locator_is_word}
+use Rattle.rdata_fields.specs.WordLaws.{number8_is_kind, number16_is_kind, number32_is_kind, interval_is_kind, ipv4_is_word, ipv6_is_word, type_is_word, sig_type_is_word, algorithm_is_word, certificate_is_word, scheme_is_word, eui48_is_word, eui64_is_word, date_is_word, locator_is_word}
+
+no_more : (a b : List ℕ) → a ≡ b → length a ≤ length b
+no_more a b same = omega (arith, ap length same)
 
 -- octets begin with one value of `width` octets at most
 of_one_width : (width : ℕ) → AreSelfDelimiting (AreOctetsOf width)
@@ -47,6 +52,7 @@ word_is_form {V} width valid spells reason wire printed k = record {
   are_wire = λ quoted text octets values h. subst (AreOctetsOf width) (sym h.1.3) (k.sized h.1.0 h.1.1);
   back = λ octets h. (refl, k.spelled octets h);
   once = λ quoted text a b h j. h.1.3 ∙ k.once text h.1.0 j.1.0 h.1.2 j.1.2 ∙ sym j.1.3;
+  begun = λ quoted text a b h j. no_more a b (h.1.3 ∙ k.once text h.1.0 j.1.0 h.1.2 j.1.2 ∙ sym j.1.3);
   in_front = of_one_width width;
 }
 
@@ -55,6 +61,7 @@ string_is_form = record {
   are_wire = λ quoted text octets values h. strings_spelled.spelled text octets values h;
   back = λ octets h. strings_spelled.back octets h;
   once = λ quoted text a b h j. strings_spelled.once text a b h j;
+  begun = λ quoted text a b h j. no_more a b (strings_spelled.once text a b h j);
   in_front = strings_in_front;
 }
 
@@ -121,6 +128,7 @@ psdn_address_is_form = record {
       let as_it_is : string_in_quotes form ≡ h.digits = ap string_in_quotes h.whole ∙ digits_as_they_are h.digits h.is_address.digital in
       (subst IsPsdnAddress (sym as_it_is) h.is_address, h.whole ∙ ap (λ t. length t ∷ t) (sym as_it_is));
   once = λ quoted text a b h j. h.1 ∙ sym j.1;
+  begun = λ quoted text a b h j. no_more a b (h.1 ∙ sym j.1);
   in_front = record { width = psdn_address_at };
 }
 
@@ -129,6 +137,7 @@ tag_is_form = record {
   are_wire = λ quoted text octets values h. tags_spelled.spelled text octets values h.1;
   back = λ octets h. (refl, tags_spelled.back octets h);
   once = λ quoted text a b h j. tags_spelled.once text a b h.1 j.1;
+  begun = λ quoted text a b h j. no_more a b (tags_spelled.once text a b h.1 j.1);
   in_front = tags_in_front;
 }
 
@@ -140,11 +149,15 @@ salt_short : (text octets : List ℕ) → SpellsSalt text octets → length octe
 salt_short text octets (inl h) = subst (λ o. length o ≤ 255) (sym h.1) (omega arith)
 salt_short text octets (inr h) = h.2
 
+salt_once : (text a b : List ℕ) → SpellsWireSalt text a → SpellsWireSalt text b → a ≡ b
+salt_once text a b h j = h.whole ∙ ap (λ o. length o ∷ o) (salts_are_kind.once text h.octets j.octets h.spelled j.spelled) ∙ sym j.whole
+
 salt_is_form : IsFieldForm salt_form
 salt_is_form = record {
   are_wire = λ quoted text octets values h. record { octets = h.1.octets; values = salt_values text h.1.octets h.1.spelled; short = salt_short text h.1.octets h.1.spelled; whole = h.1.whole };
   back = λ form h. (refl, record { octets = h.octets; spelled = subst (λ o. SpellsSalt (salt_text o) h.octets) (sym (ap (drop 1) h.whole)) (salts_are_kind.spelled h.octets (h.values, h.short)); whole = h.whole });
-  once = λ quoted text a b h j. h.1.whole ∙ ap (λ o. length o ∷ o) (salts_are_kind.once text h.1.octets j.1.octets h.1.spelled j.1.spelled) ∙ sym j.1.whole;
+  once = λ quoted text a b h j. salt_once text a b h.1 j.1;
+  begun = λ quoted text a b h j. no_more a b (salt_once text a b h.1 j.1);
   in_front = strings_in_front;
 }
 
@@ -176,6 +189,9 @@ hash_at form rest (Some width) is finds = strings_in_front.width form rest (Some
 is_base32hex : IsEncoding base32hex
 is_base32hex = inr (inl refl)
 
+hash_once : (text a b : List ℕ) → SpellsHash text a → SpellsHash text b → a ≡ b
+hash_once text a b h j = h.wire_is ∙ ap (λ o. length o ∷ o) (spells_once base32hex is_base32hex text h.hash j.hash h.spelled j.spelled) ∙ sym j.wire_is
+
 hash_is_form : IsFieldForm hash_form
 hash_is_form = record {
   are_wire = λ quoted text octets values h. record { octets = h.1.hash; values = h.1.spelled.bytes; some = h.1.some; short = omega (arith, h.1.short); whole = h.1.wire_is };
@@ -189,7 +205,8 @@ hash_is_form = record {
       wire_is = h.whole;
     },
   );
-  once = λ quoted text a b h j. h.1.wire_is ∙ ap (λ o. length o ∷ o) (spells_once base32hex is_base32hex text h.1.hash j.1.hash h.1.spelled j.1.spelled) ∙ sym j.1.wire_is;
+  once = λ quoted text a b h j. hash_once text a b h.1 j.1;
+  begun = λ quoted text a b h j. no_more a b (hash_once text a b h.1 j.1);
   in_front = record { width = hash_at };
 }
 
@@ -198,6 +215,7 @@ name_is_form origin is = let k = names_spelled origin is in record {
   are_wire = λ quoted text octets values h. k.spelled text octets values h.1;
   back = λ octets h. (refl, k.back octets h);
   once = λ quoted text a b h j. k.once text a b h.1 j.1;
+  begun = λ quoted text a b h j. name_begun origin text a b h.1 j.1;
   in_front = names_in_front;
 }
 
@@ -212,6 +230,7 @@ fields_are_forms origin is OfRecordType = word_is_form _ _ _ _ _ _ type_is_word
 fields_are_forms origin is OfSigType = word_is_form _ _ _ _ _ _ sig_type_is_word
 fields_are_forms origin is OfAlgorithm = word_is_form _ _ _ _ _ _ algorithm_is_word
 fields_are_forms origin is OfCertificateType = word_is_form _ _ _ _ _ _ certificate_is_word
+fields_are_forms origin is OfSyncScheme = word_is_form _ _ _ _ _ _ scheme_is_word
 fields_are_forms origin is OfEui48 = word_is_form _ _ _ _ _ _ eui48_is_word
 fields_are_forms origin is OfEui64 = word_is_form _ _ _ _ _ _ eui64_is_word
 fields_are_forms origin is OfTime = word_is_form _ _ _ _ _ _ date_is_word
@@ -235,6 +254,7 @@ fields_once origin OfRecordType quoted text a b h k = (fields_are_forms None tt 
 fields_once origin OfSigType quoted text a b h k = (fields_are_forms None tt OfSigType).once quoted text a b h k
 fields_once origin OfAlgorithm quoted text a b h k = (fields_are_forms None tt OfAlgorithm).once quoted text a b h k
 fields_once origin OfCertificateType quoted text a b h k = (fields_are_forms None tt OfCertificateType).once quoted text a b h k
+fields_once origin OfSyncScheme quoted text a b h k = (fields_are_forms None tt OfSyncScheme).once quoted text a b h k
 fields_once origin OfEui48 quoted text a b h k = (fields_are_forms None tt OfEui48).once quoted text a b h k
 fields_once origin OfEui64 quoted text a b h k = (fields_are_forms None tt OfEui64).once quoted text a b h k
 fields_once origin OfTime quoted text a b h k = (fields_are_forms None tt OfTime).once quoted text a b h k
@@ -245,3 +265,27 @@ fields_once origin OfTag quoted text a b h k = (fields_are_forms None tt OfTag).
 fields_once origin OfSalt quoted text a b h k = (fields_are_forms None tt OfSalt).once quoted text a b h k
 fields_once origin OfHash quoted text a b h k = (fields_are_forms None tt OfHash).once quoted text a b h k
 fields_once origin OfName quoted text a b h k = name_once origin text a b h.1 k.1
+
+-- and a beginning of it no more octets
+pub fields_begun : (origin : Option (List (List ℕ))) (f : Field) (quoted : Bool) (text a b : List ℕ) → (field_form origin f).begins quoted text a → (field_form origin f).spells quoted text b → length a ≤ length b
+fields_begun origin OfNumber8 quoted text a b h k = (fields_are_forms None tt OfNumber8).begun quoted text a b h k
+fields_begun origin OfNumber16 quoted text a b h k = (fields_are_forms None tt OfNumber16).begun quoted text a b h k
+fields_begun origin OfNumber32 quoted text a b h k = (fields_are_forms None tt OfNumber32).begun quoted text a b h k
+fields_begun origin OfInterval quoted text a b h k = (fields_are_forms None tt OfInterval).begun quoted text a b h k
+fields_begun origin OfIpv4 quoted text a b h k = (fields_are_forms None tt OfIpv4).begun quoted text a b h k
+fields_begun origin OfIpv6 quoted text a b h k = (fields_are_forms None tt OfIpv6).begun quoted text a b h k
+fields_begun origin OfRecordType quoted text a b h k = (fields_are_forms None tt OfRecordType).begun quoted text a b h k
+fields_begun origin OfSigType quoted text a b h k = (fields_are_forms None tt OfSigType).begun quoted text a b h k
+fields_begun origin OfAlgorithm quoted text a b h k = (fields_are_forms None tt OfAlgorithm).begun quoted text a b h k
+fields_begun origin OfCertificateType quoted text a b h k = (fields_are_forms None tt OfCertificateType).begun quoted text a b h k
+fields_begun origin OfSyncScheme quoted text a b h k = (fields_are_forms None tt OfSyncScheme).begun quoted text a b h k
+fields_begun origin OfEui48 quoted text a b h k = (fields_are_forms None tt OfEui48).begun quoted text a b h k
+fields_begun origin OfEui64 quoted text a b h k = (fields_are_forms None tt OfEui64).begun quoted text a b h k
+fields_begun origin OfTime quoted text a b h k = (fields_are_forms None tt OfTime).begun quoted text a b h k
+fields_begun origin OfLocator quoted text a b h k = (fields_are_forms None tt OfLocator).begun quoted text a b h k
+fields_begun origin OfString quoted text a b h k = (fields_are_forms None tt OfString).begun quoted text a b h k
+fields_begun origin OfPsdnAddress quoted text a b h k = (fields_are_forms None tt OfPsdnAddress).begun quoted text a b h k
+fields_begun origin OfTag quoted text a b h k = (fields_are_forms None tt OfTag).begun quoted text a b h k
+fields_begun origin OfSalt quoted text a b h k = (fields_are_forms None tt OfSalt).begun quoted text a b h k
+fields_begun origin OfHash quoted text a b h k = (fields_are_forms None tt OfHash).begun quoted text a b h k
+fields_begun origin OfName quoted text a b h k = name_begun origin text a b h.1 k.1

@@ -11,7 +11,7 @@ use Rattle.rdata_fields.specs.Parsing.{SpellsEach, SpellsField, SpellsFields, Re
 use Rattle.rdata_values.specs.declared.error.ErrorKind.{ErrorKind}
 use Rattle.rdata_values.specs.declared.error.ErrorKind.TheVariants.{ShortBuf}
 use Rattle.rdata_fields.specs.declared.field.Field.{Field}
-use Rattle.rdata_fields.proofs.FormLaws.{fields_once}
+use Rattle.rdata_fields.proofs.FormLaws.{fields_once, fields_begun}
 
 module _ (origin : Option (List (List ℕ))) where
   pub field_once : (f : Field) (t : TokenSeen) (a b : List ℕ) → SpellsField origin f t a → SpellsField origin f t b → a ≡ b
@@ -62,7 +62,9 @@ module _ (origin : Option (List (List ℕ))) where
   refused_next : (room : Room) (f : Field) (left : List TokenSeen) (middle : List ℕ) (e : ErrorKind) (t : TokenSeen) (ts : List TokenSeen) (mid : List ℕ) → RefusesNext origin room f left middle e → left ≡ t ∷ ts
       → SpellsField origin f t mid → (e ≡ ShortBuf) × (room.fits < length middle + length mid)
   refused_next room f [] middle e t ts mid h is sp = cc is
-  refused_next room f (u ∷ us) middle e t ts mid (inl h) is sp = let same : u ≡ t = cc is in (h.0, h.1 mid (subst (λ x. SpellsField origin f x mid) (sym same) sp))
+  refused_next room f (u ∷ us) middle e t ts mid (inl h) is sp =
+      let same : u ≡ t = cc is in
+      let few = fields_begun origin f u.is_quoted u.text h.1.0 mid h.1.1 (subst (λ x. SpellsField origin f x mid) (sym same) sp) in (h.0, omega (arith, few, h.1.2))
   refused_next room f (u ∷ us) middle e t ts mid (inr h) is sp = let same : u ≡ t = cc is in absurd (h.1 mid (subst (λ x. SpellsField origin f x mid) (sym same) sp))
 
   pub only_room_lacks : (room : Room) (fields : List Field) (tokens : List TokenSeen) (old : List ℕ) (place : ℕ) (e : ErrorKind) (left : List TokenSeen) (new : List ℕ) (first last : List TokenSeen) (octets : List ℕ)

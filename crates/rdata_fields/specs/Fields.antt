@@ -8,13 +8,14 @@ use Rattle.rdata_values.specs.Addresses.{shown_ipv6}
 use Rattle.rdata_values.specs.Algorithms.{SpellsAlgorithm, SpellsCertificate, certificate_text}
 use Rattle.rdata_values.specs.Eui.{AreEuiOctets, SpellsEui48, SpellsEui64, dashed_text}
 use Rattle.rdata_values.specs.Locator.{SpellsLocator, locator_text}
+use Rattle.rdata_values.specs.Schemes.{SpellsScheme, scheme_text}
 use Rattle.rdata_values.specs.Time.{IsDate, SpellsDate, seconds_at, date_at, date_text}
 use Rattle.rdata_values.specs.Ttl.{SpellsInterval}
 use Rattle.rdata_values.specs.Types.{SpellsPortable, portable_text, SpellsSigType, sig_type_text}
 use Rattle.rdata_values.specs.declared.addresses.Ipv6Shown.{Ipv6Shown}
-use Rattle.rdata_values.specs.declared.error.ErrorKind.TheVariants.{ExpectedIpv4, ExpectedIpv6, ExpectedInterval, UnknownType, UnknownAlgorithm, UnknownCertificate, ExpectedEui48, ExpectedEui64, ExpectedTime, ExpectedLocator}
+use Rattle.rdata_values.specs.declared.error.ErrorKind.TheVariants.{ExpectedIpv4, ExpectedIpv6, ExpectedInterval, UnknownType, UnknownAlgorithm, UnknownCertificate, UnknownScheme, ExpectedEui48, ExpectedEui64, ExpectedTime, ExpectedLocator}
 use Rattle.rdata_fields.specs.declared.field.Field.{Field}
-use Rattle.rdata_fields.specs.declared.field.Field.TheVariants.{Number8 as OfNumber8, Number16 as OfNumber16, Number32 as OfNumber32, Interval as OfInterval, Ipv4 as OfIpv4, Ipv6 as OfIpv6, RecordType as OfRecordType, SigType as OfSigType, Algorithm as OfAlgorithm, CertificateType as OfCertificateType, Eui48 as OfEui48, Eui64 as OfEui64, Time as OfTime, Locator as OfLocator, String as OfString, PsdnAddress as OfPsdnAddress, Tag as OfTag, Salt as OfSalt, Hash as OfHash, Name as OfName}
+use Rattle.rdata_fields.specs.declared.field.Field.TheVariants.{Number8 as OfNumber8, Number16 as OfNumber16, Number32 as OfNumber32, Interval as OfInterval, Ipv4 as OfIpv4, Ipv6 as OfIpv6, RecordType as OfRecordType, SigType as OfSigType, Algorithm as OfAlgorithm, CertificateType as OfCertificateType, SyncScheme as OfSyncScheme, Eui48 as OfEui48, Eui64 as OfEui64, Time as OfTime, Locator as OfLocator, String as OfString, PsdnAddress as OfPsdnAddress, Tag as OfTag, Salt as OfSalt, Hash as OfHash, Name as OfName}
 use Rattle.rdata_fields.specs.declared.words.Interval.{Interval as Seconds}
 use Rattle.rdata_tokens.specs.NameSpelling.{IsOrigin}
 use Rattle.rdata_fields.specs.Forms.{FieldForm, IsFieldForm, word_form, string_form, psdn_address_form, tag_form, salt_form, hash_form, name_form}
@@ -32,6 +33,7 @@ field_form origin OfRecordType = word_form 2 (λ t. t.0 < 2 ^ 16) SpellsPortable
 field_form origin OfSigType = word_form 2 (λ t. t.0 < 2 ^ 16) SpellsSigType (λ _ e. e ≡ UnknownType) (λ t. to_be_bytes w16 t.0) (λ octets. sig_type_text (from_be_bytes w16 octets))
 field_form origin OfAlgorithm = word_form 1 (λ a. a.0 < 2 ^ 8) SpellsAlgorithm (λ _ e. e ≡ UnknownAlgorithm) (λ a. a.0 ∷ []) (λ octets. decimal (slice_index octets 0))
 field_form origin OfCertificateType = word_form 2 (λ t. t.0 < 2 ^ 16) SpellsCertificate (λ _ e. e ≡ UnknownCertificate) (λ t. to_be_bytes w16 t.0) (λ octets. certificate_text (record { 0 = from_be_bytes w16 octets }))
+field_form origin OfSyncScheme = word_form 1 (λ s. s.0 < 2 ^ 8) SpellsScheme (λ _ e. e ≡ UnknownScheme) (λ s. s.0 ∷ []) (λ octets. scheme_text (record { 0 = slice_index octets 0 }))
 field_form origin OfEui48 = word_form 6 (λ e. AreEuiOctets 6 e.0) SpellsEui48 (λ _ e. e ≡ ExpectedEui48) (λ e. e.0) dashed_text
 field_form origin OfEui64 = word_form 8 (λ e. AreEuiOctets 8 e.0) SpellsEui64 (λ _ e. e ≡ ExpectedEui64) (λ e. e.0) dashed_text
 field_form origin OfTime = word_form 4 (λ d. IsDate d × (seconds_at d < 2 ^ 32)) SpellsDate (λ _ e. e ≡ ExpectedTime) (λ d. to_be_bytes w32 (seconds_at d)) (λ octets. date_text (date_at (from_be_bytes w32 octets)))

@@ -4,11 +4,11 @@ use Rattle.std.specs.Prelude.{ℕ, ◌≡◌, ◌<◌, ◌≤◌, ◌⊎◌, Boo
 use Rattle.std.specs.Char.{is_ascii_digit}
 use Rattle.std.specs.List.{list_all}
 use Rattle.dns_octets.specs.Room.{Room}
-use Rattle.dns_octets.specs.Appending.{Extends, Gains, LacksRoom}
+use Rattle.dns_octets.specs.Appending.{Extends, Gains, ExceedsRoom}
 use Rattle.dns_symbol.specs.Characters.{double_quote}
 use Rattle.rdata_tokens.specs.Spelling.{AreOctetValues, SpellsToBadEscape, SpellsOctetList}
 use Rattle.rdata_tokens.specs.Forms.{AreSelfDelimiting, IsWireString, SpellsString, IsTag, IsWireTag, SpellsTag}
-use Rattle.rdata_tokens.specs.NameSpelling.{SpellsName, IsWireName, WhyNoName}
+use Rattle.rdata_tokens.specs.NameSpelling.{SpellsName, BeginsName, IsWireName, WhyNoName}
 use Rattle.rdata_tokens.specs.PrintedNames.{wire_name_text}
 use Rattle.rdata_tokens.specs.Shown.{string_in_quotes, tag_text}
 use Rattle.dns_codec.specs.Base.{base32hex, encoded}
@@ -21,6 +21,8 @@ use Rattle.rdata_fields.specs.Words.{SpellsAs, AreOctetsOf}
 pub record FieldForm : Type 1 where
   -- a token, by whether it is a quoted string and by its text, spells a field of these octets
   pub spells : Bool → List ℕ → List ℕ → Type 0
+  -- octets that a beginning of the token spells: those of the whole field, if a token is read whole before an octet is appended
+  pub begins : Bool → List ℕ → List ℕ → Type 0
   -- why a token that spells none is rejected
   pub reason : Bool → List ℕ → ErrorKind → Type 0
   -- the octets that a field can have
@@ -33,12 +35,13 @@ pub record FieldForm : Type 1 where
 abbrev pub token_text : FieldForm → List ℕ → List ℕ
 token_text f octets = if f.quotes then double_quote ∷ (f.printed octets ++ double_quote ∷ []) else f.printed octets
 
--- Each token spells octets of one field. What a field prints as spells it. And octets begin with
--- one field at most.
+-- Each token spells octets of one field, and a beginning of it no more octets. What a field prints
+-- as spells it. And octets begin with one field at most.
 pub record IsFieldForm (f : FieldForm) : Type 0 where
   pub are_wire : (quoted : Bool) (text octets : List ℕ) → AreOctetValues text → f.spells quoted text octets → f.is_wire octets
   pub back : (octets : List ℕ) → f.is_wire octets → f.spells f.quotes (f.printed octets) octets
   pub once : (quoted : Bool) (text a b : List ℕ) → f.spells quoted text a → f.spells quoted text b → a ≡ b
+  pub begun : (quoted : Bool) (text front octets : List ℕ) → f.begins quoted text front → f.spells quoted text octets → length front ≤ length octets
   pub in_front : AreSelfDelimiting f.is_wire
 
 -- why a word is rejected: it is a quoted string; or it spells no value of its kind
@@ -49,6 +52,7 @@ WordReason reason quoted text e = ((e ≡ Quoted) × (quoted ≡ true)) ⊎ ((qu
 abbrev pub word_form : {V : Type 0} → ℕ → (V → Type 0) → (List ℕ → V → Type 0) → (List ℕ → ErrorKind → Type 0) → (V → List ℕ) → (List ℕ → List ℕ) → FieldForm
 word_form width valid spells reason wire printed = record {
   spells = λ quoted text octets. (quoted ≡ false) × SpellsAs valid spells wire text octets;
+  begins = λ quoted text octets. (quoted ≡ false) × SpellsAs valid spells wire text octets;
   reason = WordReason reason;
   is_wire = AreOctetsOf width;
   quotes = false;
@@ -65,6 +69,7 @@ StringReason quoted text other = ⊥
 abbrev pub string_form : FieldForm
 string_form = record {
   spells = λ quoted text octets. SpellsString text octets;
+  begins = λ quoted text octets. SpellsString text octets;
   reason = StringReason;
   is_wire = IsWireString;
   quotes = true;
@@ -94,6 +99,7 @@ PsdnAddressReason quoted text e = (e ≡ ExpectedPsdnAddress) × (IsPsdnAddress 
 abbrev pub psdn_address_form : FieldForm
 psdn_address_form = record {
   spells = λ quoted text octets. SpellsPsdnAddress text octets;
+  begins = λ quoted text octets. SpellsPsdnAddress text octets;
   reason = PsdnAddressReason;
   is_wire = IsWirePsdnAddress;
   quotes = true;
@@ -108,6 +114,7 @@ TagReason quoted text e = ((e ≡ Quoted) × (quoted ≡ true)) ⊎ ((e ≡ BadT
 abbrev pub tag_form : FieldForm
 tag_form = record {
   spells = λ quoted text octets. (quoted ≡ false) × SpellsTag text octets;
+  begins = λ quoted text octets. (quoted ≡ false) × SpellsTag text octets;
   reason = TagReason;
   is_wire = IsWireTag;
   quotes = false;
@@ -123,6 +130,7 @@ pub record SpellsWireSalt (text form : List ℕ) : Type 0 where
 abbrev pub salt_form : FieldForm
 salt_form = record {
   spells = λ quoted text octets. (quoted ≡ false) × SpellsWireSalt text octets;
+  begins = λ quoted text octets. (quoted ≡ false) × SpellsWireSalt text octets;
   reason = WordReason (λ _ e. e ≡ ExpectedSalt);
   is_wire = IsWireString;
   quotes = false;
@@ -145,6 +153,7 @@ HashReason quoted text e = ((e ≡ Quoted) × (quoted ≡ true)) ⊎ ((e ≡ has
 abbrev pub hash_form : FieldForm
 hash_form = record {
   spells = λ quoted text octets. (quoted ≡ false) × SpellsHash text octets;
+  begins = λ quoted text octets. (quoted ≡ false) × SpellsHash text octets;
   reason = HashReason;
   is_wire = IsWireHash;
   quotes = false;
@@ -159,19 +168,20 @@ NameReason origin quoted text e = ((e ≡ QuotedName) × (quoted ≡ true)) ⊎ 
 abbrev pub name_form : Option (List (List ℕ)) → FieldForm
 name_form origin = record {
   spells = λ quoted text octets. (quoted ≡ false) × SpellsName origin text octets;
+  begins = λ quoted text octets. (quoted ≡ false) × BeginsName origin text octets;
   reason = NameReason origin;
   is_wire = IsWireName;
   quotes = false;
   printed = wire_name_text;
 }
 
--- why a token is rejected as a field: its octets don't surely fit; or it spells none, for this reason
-abbrev pub RefusesField : Room → (List ℕ → Type 0) → (ErrorKind → Type 0) → List ℕ → ErrorKind → Type 0
-RefusesField room spelled reason old e = ((e ≡ ShortBuf) × LacksRoom room spelled old) ⊎ (reason e × ((octets : List ℕ) → spelled octets → ⊥))
+-- why a token is rejected as a field: octets that a beginning of it spells don't surely fit; or it spells none, for this reason
+abbrev pub RefusesField : Room → (List ℕ → Type 0) → (List ℕ → Type 0) → (ErrorKind → Type 0) → List ℕ → ErrorKind → Type 0
+RefusesField room begun spelled reason old e = ((e ≡ ShortBuf) × ExceedsRoom room begun old) ⊎ (reason e × ((octets : List ℕ) → spelled octets → ⊥))
 
 -- A token is parsed as a field: the target gains the octets that it spells. Or it is rejected, and
 -- the target has its old octets, perhaps with more after them.
 pub record ReadsField (room : Room) (f : FieldForm) (quoted : Bool) (text old : List ℕ) (r : Result (Unit {0}) ErrorKind) (new : List ℕ) : Type 0 where
   pub gains : OnOk r (Gains (f.spells quoted text) old new)
-  pub refused : IfErr r (RefusesField room (f.spells quoted text) (f.reason quoted text) old)
+  pub refused : IfErr r (RefusesField room (f.begins quoted text) (f.spells quoted text) (f.reason quoted text) old)
   pub extends : OnErr r (Extends old new)

@@ -16,6 +16,10 @@ use Rattle.rdata_fields.specs.Source.{next_place}
 abbrev pub SpellsField : Option (List (List ℕ)) → Field → TokenSeen → List ℕ → Type 0
 SpellsField origin f t = (field_form origin f).spells t.is_quoted t.text
 
+-- a beginning of the token spells octets of the field
+abbrev pub BeginsField : Option (List (List ℕ)) → Field → TokenSeen → List ℕ → Type 0
+BeginsField origin f t = (field_form origin f).begins t.is_quoted t.text
+
 -- the tokens spell the fields, one each, and the octets are theirs, one after another
 abbrev pub SpellsFields : Option (List (List ℕ)) → List Field → List TokenSeen → List ℕ → Type 0
 SpellsFields origin [] [] octets = octets ≡ []
@@ -26,7 +30,7 @@ SpellsFields origin (f ∷ fs) (t ∷ ts) octets = (front : List ℕ) × (back :
 -- why the next token is not parsed as a field: there is none; or it is rejected
 abbrev pub RefusesNext : Option (List (List ℕ)) → Room → Field → List TokenSeen → List ℕ → ErrorKind → Type 0
 RefusesNext origin room f [] old e = e ≡ EndOfEntry
-RefusesNext origin room f (t ∷ ts) old e = RefusesField room (SpellsField origin f t) ((field_form origin f).reason t.is_quoted t.text) old e
+RefusesNext origin room f (t ∷ ts) old e = RefusesField room (BeginsField origin f t) (SpellsField origin f t) ((field_form origin f).reason t.is_quoted t.text) old e
 
 -- the next token is parsed as a field; or it is rejected at its offset, and no token is read
 abbrev pub ParsesField : Option (List (List ℕ)) → Room → Field → TokenParser (Unit {0})

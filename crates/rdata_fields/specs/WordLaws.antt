@@ -13,6 +13,7 @@ use Rattle.rdata_values.specs.Addresses.{shown_ipv6}
 use Rattle.rdata_values.specs.Algorithms.{SpellsAlgorithm, SpellsCertificate, certificate_text}
 use Rattle.rdata_values.specs.Eui.{AreEuiOctets, SpellsEui48, SpellsEui64, dashed_text}
 use Rattle.rdata_values.specs.Locator.{SpellsLocator, locator_text}
+use Rattle.rdata_values.specs.Schemes.{SpellsScheme, scheme_text}
 use Rattle.rdata_values.specs.Time.{IsDate, SpellsDate, seconds_at, date_at, date_text}
 use Rattle.rdata_values.specs.Ttl.{SpellsInterval}
 use Rattle.rdata_values.specs.Types.{SpellsPortable, portable_text, SpellsSigType, sig_type_text}
@@ -23,6 +24,7 @@ use Rattle.rdata_values.proofs.DateLaws.{dates_are_kind}
 use Rattle.rdata_values.proofs.DatesAt.{seconds_have_dates}
 use Rattle.rdata_values.proofs.LocatorLaws.{locators_are_kind}
 use Rattle.rdata_values.proofs.EuiLaws.{euis_are_kind}
+use Rattle.rdata_values.proofs.SchemeLaws.{schemes_are_kind}
 use Rattle.rdata_values.proofs.TtlLaws.{intervals_are_kind}
 use Rattle.rdata_fields.specs.declared.words.Interval.{Interval}
 use Rattle.rdata_fields.specs.Words.{IsWordKind, SpellsBelow, SpellsAs, AreOctetsOf}
@@ -181,6 +183,9 @@ certificate_is_word = of_kind 2 (λ t. t.0 < 2 ^ 16) SpellsCertificate certifica
 
 pub algorithm_is_word : IsWordKind 1 (λ a. a.0 < 2 ^ 8) SpellsAlgorithm (λ a. a.0 ∷ []) (λ octets. decimal (slice_index octets 0))
 algorithm_is_word = of_kind 1 (λ a. a.0 < 2 ^ 8) SpellsAlgorithm (λ a. decimal a.0) (λ a. a.0 ∷ []) (λ octets. record { 0 = slice_index octets 0 }) algorithms_are_kind (λ a small. octets8 a.0 small) number8_of
+
+pub scheme_is_word : IsWordKind 1 (λ s. s.0 < 2 ^ 8) SpellsScheme (λ s. s.0 ∷ []) (λ octets. scheme_text (record { 0 = slice_index octets 0 }))
+scheme_is_word = of_kind 1 (λ s. s.0 < 2 ^ 8) SpellsScheme scheme_text (λ s. s.0 ∷ []) (λ octets. record { 0 = slice_index octets 0 }) schemes_are_kind (λ s small. octets8 s.0 small) number8_of
 
 pub eui48_is_word : IsWordKind 6 (λ e. AreEuiOctets 6 e.0) SpellsEui48 (λ e. e.0) dashed_text
 eui48_is_word = of_kind 6 (λ e. AreEuiOctets 6 e.0) SpellsEui48 (λ e. dashed_text e.0) (λ e. e.0) (λ octets. record { 0 = octets }) euis_are_kind.0 (λ e h. h) (λ octets h. (h, refl))

@@ -19,7 +19,7 @@ use dns_wire::Name;
 use rdata_tokens::{NameText, name_width, string_width, tag_width};
 use rdata_values::{
     Algorithm, CertificateType, Date, ErrorKind, Eui48, Eui64, Ipv6Shown, Locator, PortableType,
-    SigType,
+    SigType, SyncScheme,
 };
 use std::fmt;
 use std::net::Ipv4Addr;
@@ -47,6 +47,8 @@ pub enum Field {
     Algorithm,
     /// A certificate type.
     CertificateType,
+    /// The scheme of a DSYNC.
+    SyncScheme,
     /// An EUI-48.
     Eui48,
     /// An EUI-64.
@@ -93,6 +95,7 @@ pub fn append_field<Octets: AsOctets, B: OctetsBuilder>(
         Field::SigType => append_word::<SigType, B>(token, target),
         Field::Algorithm => append_word::<Algorithm, B>(token, target),
         Field::CertificateType => append_word::<CertificateType, B>(token, target),
+        Field::SyncScheme => append_word::<SyncScheme, B>(token, target),
         Field::Eui48 => append_word::<Eui48, B>(token, target),
         Field::Eui64 => append_word::<Eui64, B>(token, target),
         Field::Time => append_word::<Date, B>(token, target),
@@ -122,6 +125,7 @@ pub fn field_width(field: Field, octets: &[u8]) -> Option<usize>
         Field::SigType => word_width::<SigType>(octets),
         Field::Algorithm => word_width::<Algorithm>(octets),
         Field::CertificateType => word_width::<CertificateType>(octets),
+        Field::SyncScheme => word_width::<SyncScheme>(octets),
         Field::Eui48 => word_width::<Eui48>(octets),
         Field::Eui64 => word_width::<Eui64>(octets),
         Field::Time => word_width::<Date>(octets),
@@ -156,6 +160,7 @@ pub fn write_field<W: fmt::Write>(
         Field::SigType => write_word::<SigType, W>(octets, f),
         Field::Algorithm => write_word::<Algorithm, W>(octets, f),
         Field::CertificateType => write_word::<CertificateType, W>(octets, f),
+        Field::SyncScheme => write_word::<SyncScheme, W>(octets, f),
         Field::Eui48 => write_word::<Eui48, W>(octets, f),
         Field::Eui64 => write_word::<Eui64, W>(octets, f),
         Field::Time => write_word::<Date, W>(octets, f),

@@ -8,12 +8,13 @@ ghost use Rattle.rdata_values.specs.Addresses.{shown_ipv6};
 ghost use Rattle.rdata_values.specs.Algorithms.{SpellsAlgorithm, SpellsCertificate, certificate_text};
 ghost use Rattle.rdata_values.specs.Eui.{AreEuiOctets, SpellsEui48, SpellsEui64, dashed_text};
 ghost use Rattle.rdata_values.specs.Locator.{SpellsLocator, locator_text};
+ghost use Rattle.rdata_values.specs.Schemes.{SpellsScheme, scheme_text};
 ghost use Rattle.rdata_values.specs.Time.{IsDate, SpellsDate, seconds_at, date_at, date_text};
 ghost use Rattle.rdata_values.specs.Ttl.{SpellsInterval};
 ghost use Rattle.rdata_values.specs.Types.{SpellsPortable, portable_text, SpellsSigType, sig_type_text};
-ghost use Rattle.rdata_values.specs.declared.error.ErrorKind.TheVariants.{ExpectedIpv4, ExpectedIpv6, ExpectedInterval, UnknownType, UnknownAlgorithm, UnknownCertificate, ExpectedEui48, ExpectedEui64, ExpectedTime, ExpectedLocator};
+ghost use Rattle.rdata_values.specs.declared.error.ErrorKind.TheVariants.{ExpectedIpv4, ExpectedIpv6, ExpectedInterval, UnknownType, UnknownAlgorithm, UnknownCertificate, UnknownScheme, ExpectedEui48, ExpectedEui64, ExpectedTime, ExpectedLocator};
 ghost use Rattle.rdata_fields.specs.Words.{SpellsBelow, NumberReason};
-ghost use Rattle.rdata_fields.specs.WordLaws.{number8_is_kind, number16_is_kind, number32_is_kind, interval_is_kind, ipv4_is_word, ipv6_is_word, type_is_word, sig_type_is_word, algorithm_is_word, certificate_is_word, eui48_is_word, eui64_is_word, date_is_word, locator_is_word};
+ghost use Rattle.rdata_fields.specs.WordLaws.{number8_is_kind, number16_is_kind, number32_is_kind, interval_is_kind, ipv4_is_word, ipv6_is_word, type_is_word, sig_type_is_word, algorithm_is_word, certificate_is_word, scheme_is_word, eui48_is_word, eui64_is_word, date_is_word, locator_is_word};
 
 use crate::addresses::{ipv4_from_text, ipv6_from_text};
 use crate::word::Word;
@@ -21,7 +22,7 @@ use dns_octets::{OctetsBuilder, ShortBuf};
 use rdata_values::numbers::{u8_from_text, u16_from_text, u32_from_text};
 use rdata_values::{
     Algorithm, CertificateType, Date, ErrorKind, Eui48, Eui64, Ipv6Shown, Locator, PortableType,
-    RecordType, SigType, interval_from_text,
+    RecordType, SigType, SyncScheme, interval_from_text,
 };
 use std::fmt;
 use std::net::{Ipv4Addr, Ipv6Addr};
@@ -379,6 +380,38 @@ impl Word for Algorithm {
     }
 
     ghost is_kind = { algorithm_is_word };
+}
+
+impl Word for SyncScheme {
+    ghost width = { 1 };
+
+    ghost valid = { λ s. s.0 < 2 ^ 8 };
+
+    ghost spells = { SpellsScheme };
+
+    ghost reason = { λ _ e. e ≡ UnknownScheme };
+
+    ghost wire = { λ s. s.0 ∷ [] };
+
+    ghost printed = { λ octets. scheme_text (record { 0 = slice_index octets 0 }) };
+
+    fn width() -> usize {
+        1
+    }
+
+    fn from_text(text: &[u8]) -> Result<Self, ErrorKind> {
+        SyncScheme::from_text(text)
+    }
+
+    fn from_wire(octets: &[u8]) -> Self {
+        SyncScheme(octets[0])
+    }
+
+    fn append<B: OctetsBuilder>(&self, target: &mut B) -> Result<(), ShortBuf> {
+        target.append_slice(&[self.0])
+    }
+
+    ghost is_kind = { scheme_is_word };
 }
 
 impl Word for Eui48 {

@@ -30,6 +30,9 @@ returns-in-Algorithm g c = rw c.in-Algorithm.is c.append_word-in-Algorithm.ensur
 pub returns-in-CertificateType : goal.returns-in-CertificateType
 returns-in-CertificateType g c = rw c.in-CertificateType.is c.append_word-in-CertificateType.ensures.reads
 
+pub returns-in-SyncScheme : goal.returns-in-SyncScheme
+returns-in-SyncScheme g c = rw c.in-SyncScheme.is c.append_word-in-SyncScheme.ensures.reads
+
 pub returns-in-Eui48 : goal.returns-in-Eui48
 returns-in-Eui48 g c = rw c.in-Eui48.is c.append_word-in-Eui48.ensures.reads
 
