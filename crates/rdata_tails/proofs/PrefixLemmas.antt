@@ -1,5 +1,5 @@
 -- Items parse as they print, and to one item.
-use Rattle.std.proofs.Common.{ℕ, ◌≡◌, ◌≢◌, ◌<◌, ◌≤◌, ◌-◌, Bool, true, false, List, [], ◌∷◌, ◌++◌, length, get_or, take, drop, refl, sym, subst, arith, ap, ◌∙◌, inl, inr, Option, Some, None, Result, Ok, Err}
+use Rattle.std.proofs.Common.{ℕ, ◌≡◌, ◌≢◌, ◌<◌, ◌≤◌, ◌+◌, ◌-◌, Bool, true, false, List, [], ◌∷◌, ◌++◌, length, get_or, take, drop, refl, sym, subst, arith, ap, ◌∙◌, inl, inr, Option, Some, None, Result, Ok, Err}
 use Rattle.std.specs.Char.{digit_value}
 use Rattle.std.specs.Option.{ok_or}
 use Rattle.std.specs.Str.Parse.{AllDigits}
@@ -11,12 +11,13 @@ use Rattle.rdata_values.specs.Numbers.{SpellsNumber}
 use Rattle.rdata_tails.specs.declared.apl.Prefix.{Prefix}
 use Rattle.rdata_values.specs.declared.error.ErrorKind.{ErrorKind}
 use Rattle.rdata_values.specs.declared.error.ErrorKind.TheVariants.{ExpectedPrefix, ShortBuf}
-use Rattle.std.specs.Result.{IsErrAnd, IfErr}
+use Rattle.std.specs.Result.{IsErrAnd, IfErr, OnErr}
+use Rattle.std.specs.Prelude.{IsOk}
 use Rattle.std.proofs.lemmas.List.{take_all}
 use Rattle.dns_octets.specs.Room.{Room}
-use Rattle.dns_octets.specs.Appending.{LacksRoom}
+use Rattle.dns_octets.specs.Appending.{ExceedsRoom}
 use Rattle.rdata_tails.specs.Marks.{LacksMark}
-use Rattle.rdata_tails.specs.Prefixes.{family_of, address_bits, IsAddressText, IsPlainPrefix, FindsPlain, SpellsPrefix, SpellsItem, IsPrefixWire, exclusion}
+use Rattle.rdata_tails.specs.Prefixes.{family_of, address_bits, address_octets, exclusion_bit, IsAddressPart, IsAddressText, IsPlainPrefix, FindsPlain, SpellsPrefix, SpellsItem, IsPrefixWire, PrefixExceedsRoom, exclusion}
 use Rattle.rdata_values.specs.Kind.{ReadsKind}
 use Rattle.rdata_tails.specs.Refusals.{WhyNot}
 use Rattle.rdata_tails.proofs.MarkLemmas.{digits_lack, one_first, one_last, at_mark}
@@ -148,5 +149,19 @@ behind_one (c ∷ cs) is = let all : take (length (c ∷ cs) - 1) cs ≡ cs = ta
 pub not_spelled : (room : Room) (text old : List ℕ) (e : ErrorKind) → e ≡ ExpectedPrefix → ((p : Prefix) → SpellsPrefix text p → ⊥) → WhyNot room (SpellsItem text) ExpectedPrefix old e
 not_spelled room text old e is none = inl (is, λ octets h. none h.0 h.1)
 
-pub no_room : (room : Room) (text old : List ℕ) (p : Prefix) (e : ErrorKind) → e ≡ ShortBuf → SpellsPrefix text p → LacksRoom room (IsPrefixWire p) old → WhyNot room (SpellsItem text) ExpectedPrefix old e
-no_room room text old p e is own lacks = inr (is, λ octets h. lacks octets (subst (λ q. IsPrefixWire q octets) (one_prefix text h.0 p h.1 own) h.2))
+pub no_room : (room : Room) (text old : List ℕ) (p : Prefix) (e : ErrorKind) → e ≡ ShortBuf → SpellsPrefix text p → ExceedsRoom room (IsPrefixWire p) old → WhyNot room (SpellsItem text) ExpectedPrefix old e
+no_room room text old p e is own exceeds = inr (is, (exceeds.0, (p, own, exceeds.1), exceeds.2))
+
+-- what holds of an error that means a lack of room
+pub on_err : {E : Type 0} (r : Result (Unit {0}) E) {Fits P : Type 0} → (Fits → IsOk r) → ((Fits → ⊥) → P) → OnErr r P
+on_err (Ok x) fits h = tt
+on_err (Err e) fits h = h (λ enough. cc (fits enough))
+
+pub on_failed : {E : Type 0} (r : Result (Unit {0}) E) {Fits P : Type 0} → (Fits → false ≡ true) → ((Fits → ⊥) → P) → OnErr r P
+on_failed (Ok x) fits h = tt
+on_failed (Err e) fits h = h (λ enough. cc (fits enough))
+
+-- four octets, and those of the address, don't surely fit
+pub prefix_exceeds : (room : Room) (p : Prefix) (old part : List ℕ) → IsAddressPart part (address_octets p.address) → room.fits < length old + (4 + length part) → PrefixExceedsRoom room p old
+prefix_exceeds room p old part is exceeds =
+    (0 ∷ family_of p.address ∷ p.bits ∷ (exclusion_bit p.negated + length part) ∷ part, record { part = part; is_part = is; written = refl }, omega (arith, exceeds))

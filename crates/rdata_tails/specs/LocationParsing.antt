@@ -1,7 +1,7 @@
 -- How a location is parsed from the tokens of an entry, part by part.
 use Rattle.std.specs.Prelude.{ℕ, ◌≡◌, ◌≤◌, ◌⊎◌, List, [], Option, MatchOption, Result, Ok, Err}
 use Rattle.dns_octets.specs.Room.{Room}
-use Rattle.dns_octets.specs.Appending.{LacksRoom}
+use Rattle.dns_octets.specs.Appending.{ExceedsRoom}
 use Rattle.dns_lexer.specs.EntryTokens.{TokenSeen}
 use Rattle.rdata_fields.specs.RecordErrors.{IsErrorAt}
 use Rattle.rdata_fields.specs.Source.{next_place}
@@ -128,12 +128,12 @@ ParsesLocation tokens (Ok l) left = (left ≡ []) × AreLocation tokens l
 ParsesLocation tokens (Err e) left = RefusesTokens e tokens left
 
 -- Why the octets of a location were not appended. Either the tokens spell none: the first unread
--- token, or the entry's end, is the first that is wrong, for this reason. Or their octets don't
--- surely fit.
+-- token, or the entry's end, is the first that is wrong, for this reason. Or they spell one,
+-- whose octets don't surely fit.
 abbrev pub RefusesAll : Room → List TokenSeen → List TokenSeen → List ℕ → ErrorKind → Type 0
 RefusesAll room tokens left old e =
     (RefusesTokens e tokens left × IsFirstRefused tokens left × ((octets : List ℕ) → SpellsLocation tokens octets → ⊥))
-    ⊎ ((e ≡ ShortBuf) × (left ≡ []) × ((octets : List ℕ) × SpellsLocation tokens octets) × LacksRoom room (SpellsLocation tokens) old)
+    ⊎ ((e ≡ ShortBuf) × (left ≡ []) × ExceedsRoom room (SpellsLocation tokens) old)
 
 -- the error's offset is that of the first unread token, or of the entry's end
 abbrev pub RefusesLocation : Room → ℕ → List TokenSeen → List TokenSeen → List ℕ → RecordError → Type 0

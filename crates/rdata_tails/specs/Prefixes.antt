@@ -6,7 +6,7 @@ use Rattle.std.specs.Net.Text.{ipv4_text}
 use Rattle.std.specs.declared.net.ip_addr.IpAddr.{IpAddr}
 use Rattle.std.specs.declared.net.ip_addr.IpAddr.TheVariants.{V4, V6}
 use Rattle.dns_octets.specs.Room.{Room}
-use Rattle.dns_octets.specs.Appending.{Gains, LacksRoom}
+use Rattle.dns_octets.specs.Appending.{Gains, ExceedsRoom}
 use Rattle.rdata_values.specs.Addresses.{shown_ipv6}
 use Rattle.rdata_values.specs.Numbers.{SpellsNumber}
 use Rattle.rdata_values.specs.declared.error.ErrorKind.{ErrorKind}
@@ -102,8 +102,8 @@ pub record IsPrefixWire (p : Prefix) (octets : List ℕ) : Type 0 where
 abbrev pub AddsPrefix : Prefix → List ℕ → List ℕ → Type 0
 AddsPrefix p old new = Gains (IsPrefixWire p) old new
 
-abbrev pub PrefixLacksRoom : Room → Prefix → List ℕ → Type 0
-PrefixLacksRoom room p old = LacksRoom room (IsPrefixWire p) old
+abbrev pub PrefixExceedsRoom : Room → Prefix → List ℕ → Type 0
+PrefixExceedsRoom room p old = ExceedsRoom room (IsPrefixWire p) old
 
 -- a text spells an item of these octets
 abbrev pub SpellsItem : List ℕ → List ℕ → Type 0

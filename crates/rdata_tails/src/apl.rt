@@ -6,7 +6,7 @@ ghost use Rattle.std.specs.Net.Addr.{IsIpv6Addr};
 ghost use Rattle.dns_octets.specs.Appending.{Extends};
 ghost use Rattle.rdata_values.specs.Kind.{ReadsKind};
 ghost use Rattle.rdata_values.specs.declared.error.ErrorKind.TheVariants.{ExpectedPrefix};
-ghost use Rattle.rdata_tails.specs.Prefixes.{family_of, address_octets, address_bits, IsAddress, FindsNumber, IsAddressText, FindsAddress, FindsPlain, SpellsPrefix, IsAddressPart, AddsPrefix, PrefixLacksRoom, GainsItem, RefusesPrefix, prefix_text, exclusion, exclusion_bit, HasNoZeroAtEnd, HasPart, LacksPart, BeginsWithItem, FindsAddressOf, LacksItem, FindsItem, FindsItemWidth, PrefixesAreRead};
+ghost use Rattle.rdata_tails.specs.Prefixes.{family_of, address_octets, address_bits, IsAddress, FindsNumber, IsAddressText, FindsAddress, FindsPlain, SpellsPrefix, IsAddressPart, AddsPrefix, PrefixExceedsRoom, GainsItem, RefusesPrefix, prefix_text, exclusion, exclusion_bit, HasNoZeroAtEnd, HasPart, LacksPart, BeginsWithItem, FindsAddressOf, LacksItem, FindsItem, FindsItemWidth, PrefixesAreRead};
 
 use crate::marks::{around_first, around_last};
 use dns_octets::{OctetsBuilder, ShortBuf};
@@ -144,7 +144,7 @@ impl Prefix {
         requires few { length octets.now ≤ 16 }
         ensures ok { OnOk result (AddsPrefix self.now (B.octets target.old) (B.octets target.new)) }
         ensures err { OnErr result (Extends (B.octets target.old) (B.octets target.new)) }
-        ensures why { OnErr result (PrefixLacksRoom B.room self.now (B.octets target.old)) }
+        ensures why { OnErr result (PrefixExceedsRoom B.room self.now (B.octets target.old)) }
     {
         let count = used(octets);
         let exclusion = exclusion_octet(self.negated);
@@ -159,7 +159,7 @@ impl Prefix {
     pub fn compose<B: OctetsBuilder>(&self, target: &mut B) -> Result<(), ShortBuf>
         ensures ok { OnOk result (AddsPrefix self.now (B.octets target.old) (B.octets target.new)) }
         ensures err { OnErr result (Extends (B.octets target.old) (B.octets target.new)) }
-        ensures why { OnErr result (PrefixLacksRoom B.room self.now (B.octets target.old)) }
+        ensures why { OnErr result (PrefixExceedsRoom B.room self.now (B.octets target.old)) }
     {
         match self.address {
             IpAddr::V4(address) => self.append_part(&address.octets(), target),
