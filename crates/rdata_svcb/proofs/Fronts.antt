@@ -16,8 +16,8 @@ use Rattle.rdata_svcb.specs.Items.{IsWithout}
 use Rattle.rdata_svcb.specs.Keys.{NamesKey}
 use Rattle.std.specs.Prelude.{MatchOption}
 use Rattle.rdata_svcb.specs.ParamRefusals.{NamesNoKey}
-use Rattle.rdata_svcb.specs.ParamSteps.{MayBeginParam, IsClosedWord, BeginsWithOneParam, IsValueAfterWord}
-use Rattle.rdata_svcb.specs.ParamTokens.{SplitsWord, IsOpenWord, IsSeparateWord, SplitsValue, SpellsParam, SpellsFirstParams}
+use Rattle.rdata_svcb.specs.ParamSteps.{MayBeginParam, BeginsWithOneParam}
+use Rattle.rdata_svcb.specs.ParamTokens.{SplitsWord, IsClosedWord, IsOpenWord, IsSeparateWord, IsValueAfterWord, SplitsValue, SpellsParam, SpellsFirstParams}
 use Rattle.rdata_svcb.specs.ParamValues.{SpellsValue, SpellsStrings, SpellsIpv4, SpellsIpv6}
 use Rattle.rdata_svcb.specs.declared.keys.ValueKind.{ValueKind}
 use Rattle.rdata_svcb.specs.declared.keys.ValueKind.TheVariants.{Keys, Strings, Nothing, Port, Ipv4, Digits, Ipv6, Octets}
@@ -27,10 +27,10 @@ use Rattle.rdata_svcb.proofs.Refusals.{SpellsOnce, first_mark, once_as, values_o
 strings_once : SpellsOnce SpellsStrings
 strings_once text a b h k = h.whole ∙ ap wire_strings (one_list_text h.items k.items h.is_list k.is_list (h.listed ∙ spelled_once text h.list k.list h.spelled k.spelled ∙ sym k.listed)) ∙ sym k.whole
 
-ipv4_once : SpellsOnce SpellsIpv4
+pub ipv4_once : SpellsOnce SpellsIpv4
 ipv4_once = once_as IsIpv4Addr IsIpv4Text ipv4_octets ipv4_is_word.once
 
-ipv6_once : SpellsOnce SpellsIpv6
+pub ipv6_once : SpellsOnce SpellsIpv6
 ipv6_once = once_as (λ (a : Ipv6Shown). IsIpv6Addr a.0) (λ text a. IsIpv6Text text a.0) (λ a. ipv6_octets a.0) ipv6_is_word.once
 
 -- a text spells one value of its kind

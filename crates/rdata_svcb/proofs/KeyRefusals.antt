@@ -6,7 +6,7 @@ use Rattle.std.specs.List.{AllPairs}
 use Rattle.std.proofs.lemmas.Bool.{eqb-true}
 use Rattle.std.proofs.lemmas.Fmt.{decimal_injective}
 use Rattle.std.proofs.lemmas.List.{length-append, append_cancel_left, get_or-append-add}
-use Rattle.rdata_values.specs.Bitmap.{has, SameTypes}
+use Rattle.rdata_values.specs.Bitmap.{has}
 use Rattle.rdata_svcb.specs.declared.keys.ValueKind.{ValueKind}
 use Rattle.rdata_svcb.specs.declared.keys.ValueKind.TheVariants.{Octets}
 use Rattle.rdata_svcb.specs.Items.{IsWithout, SpellsApart}
@@ -102,8 +102,3 @@ same_wire a b w (suc n) h l =
 
 pub keys_once : SpellsOnce SpellsKeys
 keys_once text a b h k = h.whole ∙ ap keys_wire (apart_once NamesAKey text h.keys k.keys a_key_once h.named k.named) ∙ sym k.whole
-
--- the octets of a set that has the keys of a text
-pub wire_of_text : (text set octets spelled : List ℕ) → SpellsApart NamesAKey text spelled → SameTypes set spelled → SpellsKeys text octets → octets ≡ keys_wire set
-wire_of_text text set octets spelled named same h =
-    h.whole ∙ ap keys_wire (apart_once NamesAKey text h.keys spelled a_key_once h.named named) ∙ sym (same_wire set spelled 0 65536 same (omega arith))

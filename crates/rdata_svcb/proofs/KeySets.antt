@@ -79,9 +79,12 @@ same_octets a b w (suc n) h l =
     keys_first a w n ∙ ap (λ t. cond t (to_be_bytes w16 w) [] ++ keys_from a (w + 1) n) (h w (omega (arith, l)))
     ∙ ap (λ x. cond (has b w) (to_be_bytes w16 w) [] ++ x) (same_octets a b (w + 1) n h (omega (arith, l))) ∙ sym (keys_first b w n)
 
+-- the octets of a set are those of a text with the same keys
+pub spells_wire : (text set spelled : List ℕ) → SpellsApart NamesAKey text spelled → AllPairs (λ a b. a ≢ b) spelled → SameTypes set spelled → SpellsKeys text (keys_wire set)
+spells_wire text set spelled named once same = record { keys = spelled; named = named; once = once; whole = same_octets set spelled 0 65536 same (omega arith) }
+
 pub spells_keys : (text set old new spelled : List ℕ) → SpellsApart NamesAKey text spelled → AllPairs (λ a b. a ≢ b) spelled → SameTypes set spelled → new ≡ old ++ keys_wire set → Gains (SpellsKeys text) old new
-spells_keys text set old new spelled named once same e =
-    (keys_wire set, record { keys = spelled; named = named; once = once; whole = same_octets set spelled 0 65536 same (omega arith) }, e)
+spells_keys text set old new spelled named once same e = (keys_wire set, spells_wire text set spelled named once same, e)
 
 pub last_of : (keys : List ℕ) (w n : ℕ) → keys_from keys w (n + 1) ≡ keys_from keys w n ++ cond (has keys (w + n)) (to_be_bytes w16 (w + n)) []
 last_of keys w zero =

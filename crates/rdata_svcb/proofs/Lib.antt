@@ -21,9 +21,11 @@ pub mod KeyRefusals
 pub mod ValueRefusals
 pub mod ListRefusals
 pub mod Fronts
+pub mod NewKeys
 pub mod Sizes
 pub mod ParamRefusals
 pub mod ParamLaws
+pub mod Exceeded
 pub mod ShownKeys
 pub mod ShownValues
 pub mod ShownBack

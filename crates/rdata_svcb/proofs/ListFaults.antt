@@ -6,7 +6,7 @@ use Rattle.std.proofs.lemmas.List.Concat.{flat_map-append}
 use Rattle.std.proofs.lemmas.List.Elements.{All-head, All-tail, All-cons, All-nil}
 use Rattle.dns_octets.specs.Room.{Room}
 use Rattle.rdata_svcb.specs.Values.{AreWireStrings}
-use Rattle.rdata_svcb.specs.Texts.{item_octet, item_text, later_text, list_text, leading_items_text, wire_strings, IsItem, IsList, EndsItem, SplitsItem, BeginsNoString, SpellsList, HasListText}
+use Rattle.rdata_svcb.specs.Texts.{item_octet, item_text, later_text, list_text, leading_items_text, wire_strings, IsItem, IsList, EndsItem, SplitsItem, BeginsNoString}
 use Rattle.rdata_svcb.specs.TextFaults.{IsItemFault, IsListFault, IsStringsFault, RefusesList, RefusesStrings}
 use Rattle.rdata_values.specs.declared.error.ErrorKind.{ErrorKind}
 use Rattle.rdata_values.specs.declared.error.ErrorKind.TheVariants.{ListString, ListEscape, ShortBuf}
@@ -83,28 +83,17 @@ no_list_escape : (items others : List (List ℕ)) (text rest : List ℕ) → IsL
 no_list_escape items others text rest h e ends some n k is =
     let later = after_list items others rest h k ends (sym (is ∙ e)) in no_later_text later.0 rest some n later.1
 
-wire_both : (a b : List (List ℕ)) → length (wire_strings (a ++ b)) ≡ length (wire_strings a) + length (wire_strings b)
-wire_both a b = ap length (flat_map-append (λ i. length i ∷ i) a b) ∙ length-append (wire_strings a) (wire_strings b)
-
-list_lacks : (room : Room) (old text : List ℕ) (front others : List (List ℕ)) (rest item after : List ℕ) → text ≡ leading_items_text front ++ rest → SplitsItem rest item after
-    → room.fits < length (old ++ wire_strings front) + length (length item ∷ item) → IsList others → list_text others ≡ text → room.fits < length old + length (wire_strings others)
-list_lacks room old text front others rest item after e s l h is =
-    let t = front_tells front others rest h (sym (is ∙ e)) in
-    let first = first_tells t.later rest item after t.list t.text s in
-    let all = ap (λ x. length (wire_strings x)) (t.is ∙ ap (λ x. front ++ x) first.1) ∙ wire_both front (item ∷ first.0) in
-    let tail = length-append (length item ∷ item) (wire_strings first.0) in
-    omega (arith, length-append old (wire_strings front))
-
-lacks_by : (room : Room) (old text octets : List ℕ) (front : List (List ℕ)) (rest item after : List ℕ) → text ≡ leading_items_text front ++ rest → SplitsItem rest item after
-    → room.fits < length (old ++ wire_strings front) + length (length item ∷ item)
-    → SpellsList text octets → room.fits < length old + length octets
-lacks_by room old text octets front rest item after e s l (items, h, is, eo) =
-    let n = ap length eo in let k = list_lacks room old text front items rest item after e s l h is in omega arith
-
 -- a fault in a text means that it is not a list, or that the list does not surely fit
 pub list_fault : (room : Room) (old text : List ℕ) (e : ErrorKind) → IsListFault room old text e → RefusesList room text old e
 list_fault room old text ListString (front, rest, each, split, (item, after, s, none)) = inr (λ others h. no_list_length front others text rest item after split s none h)
-list_fault room old text ShortBuf (front, rest, each, split, (item, after, s, is, l)) = inl (refl, λ octets h. lacks_by room old text octets front rest item after split s l h)
+list_fault room old text ShortBuf (front, rest, each, split, (item, after, s, is, l)) = inl (
+  refl,
+  (
+    wire_strings front ++ (length item ∷ item),
+    (front, rest, item, after, each, split, s, is, refl),
+    omega (arith, l, length-append old (wire_strings front), length-append (wire_strings front) (length item ∷ item)),
+  ),
+)
 list_fault room old text ListEscape (items, rest, h, split, ends, some, n) = inr (λ others k. no_list_escape items others text rest h split ends some n k)
 list_fault room old text other h = absurd h
 
@@ -112,7 +101,7 @@ front_more : (x : List ℕ) (items : List (List ℕ)) (tail : List ℕ) → lead
 front_more x items tail = append_assoc (item_text x ++ 44 ∷ []) (leading_items_text items) tail ∙ append_assoc (item_text x) (44 ∷ []) (leading_items_text items ++ tail)
 
 -- a list and a comma are items with commas
-front_is : (items : List (List ℕ)) (tail : List ℕ) → items ≢ [] → leading_items_text items ++ tail ≡ list_text items ++ (44 ∷ tail)
+pub front_is : (items : List (List ℕ)) (tail : List ℕ) → items ≢ [] → leading_items_text items ++ tail ≡ list_text items ++ (44 ∷ tail)
 front_is [] tail some = absurd (some refl)
 front_is (x ∷ []) tail some = front_more x [] tail ∙ ap (λ y. y ++ (44 ∷ tail)) (sym (append-nil (item_text x)))
 front_is (x ∷ y ∷ items) tail some =
@@ -196,23 +185,10 @@ empty_or_not : (octets : List ℕ) → (AreWireStrings octets → octets ≡ [])
 empty_or_not [] h = inl refl
 empty_or_not (x ∷ xs) h = inr (λ s. let e = h s in absurd cc)
 
-list_longer : (items later : List (List ℕ)) → length (list_text items) ≤ length (list_text (items ++ later))
-list_longer [] later = omega arith
-list_longer (i ∷ items) later =
-    let both = ap length (flat_map-append (λ j. 44 ∷ item_text j) items later) ∙ length-append (later_text items) (later_text later) in
-    omega (arith, length-append (item_text i) (later_text items), length-append (item_text i) (later_text (items ++ later)))
-
-text_lacks : (room : Room) (old octets text rest : List ℕ) (items : List (List ℕ)) → octets ≡ wire_strings items ++ rest → room.fits < length old + length (list_text items)
-    → HasListText octets text → room.fits < length old + length text
-text_lacks room old octets text rest items split l (others, h, is, e) =
-    let t = strings_tell items others rest (sym split ∙ is) in
-    let n = ap length e ∙ ap (λ x. length (list_text x)) t.1 in
-    omega (arith, list_longer items t.0)
-
 -- a fault in octets means that they are not a list, or that its text does not surely fit
 pub strings_fault : (room : Room) (old octets : List ℕ) (e : ErrorKind) → IsStringsFault room old octets e → RefusesStrings room octets old e
 strings_fault room old octets ListString (front, rest, each, split, none, first) = inr (empty_or_not octets (no_strings front octets rest split none first))
-strings_fault room old octets ShortBuf (items, rest, h, split, l) = inl (refl, λ text h. text_lacks room old octets text rest items split l h)
+strings_fault room old octets ShortBuf (items, rest, h, split, l) = inl (refl, (list_text items, (items, rest, h, split, refl), l))
 strings_fault room old octets other h = absurd h
 
 pub first_text_lacks : (room : Room) (old octets item rest : List ℕ) → IsItem item → octets ≡ length item ∷ item ++ rest → room.fits < length old + length (item_text item) → IsStringsFault room old octets ShortBuf

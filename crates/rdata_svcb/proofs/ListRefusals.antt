@@ -1,24 +1,26 @@
 -- Texts that spell no list of strings.
-use Rattle.std.proofs.Common.{ℕ, ◌≡◌, ◌≢◌, ◌<◌, ◌≤◌, ◌+◌, ◌-◌, Bool, true, false, List, [], ◌∷◌, ◌++◌, length, map, refl, sym, subst, ap, ◌∙◌, arith, append_assoc, append-nil, inl, inr}
+use Rattle.std.proofs.Common.{ℕ, ◌≡◌, ◌≢◌, ◌<◌, ◌≤◌, ◌-◌, Bool, true, false, List, [], ◌∷◌, ◌++◌, length, map, refl, sym, subst, ap, ◌∙◌, arith, append_assoc, append-nil, inl, inr}
 use Rattle.std.specs.Prelude.{All}
 use Rattle.std.proofs.lemmas.Bool.{both_ways}
 use Rattle.std.proofs.lemmas.List.{length-append}
 use Rattle.std.proofs.lemmas.List.Concat.{flat_map-append}
-use Rattle.std.proofs.lemmas.List.Elements.{All-head, All-tail}
+use Rattle.std.proofs.lemmas.List.Elements.{All-head, All-nil, All-tail}
+use Rattle.dns_octets.specs.Appending.{ExceedsRoom}
 use Rattle.dns_octets.specs.Room.{Room}
 use Rattle.rdata_tokens.specs.Spelling.{SpellsBeginning, SpellsOctetList, BeginsBadEscape}
 use Rattle.std.specs.List.{flat_map}
 use Rattle.dns_symbol.specs.Symbol.{spell}
 use Rattle.dns_symbol.specs.declared.symbol.Symbol.{Symbol}
 use Rattle.dns_symbol.specs.Escape.{octet_for}
-use Rattle.rdata_tokens.proofs.Spellings.{AreSpellings, spellings_head, goes_on, none_spelled, front_none, spelled_once}
-use Rattle.rdata_svcb.specs.Texts.{is_special, item_octet, item_text, list_text, later_text, wire_strings, IsItem, IsList, EndsItem}
+use Rattle.rdata_tokens.proofs.Spellings.{AreSpellings, spellings_head, goes_on, none_spelled, front_join, front_none, spelled_once}
+use Rattle.rdata_svcb.specs.Texts.{is_special, item_octet, item_text, leading_items_text, list_text, later_text, wire_strings, IsItem, IsList, EndsItem}
 use Rattle.rdata_svcb.proofs.WireItems.{one_item, ends_empty, ends_comma, later_ends, same_first}
 use Rattle.rdata_values.specs.declared.error.ErrorKind.{ErrorKind}
-use Rattle.rdata_svcb.specs.ListItems.{EndsAtComma, BeginsUnspecial, BeginsBadItem, ContinuesToItem, BeginsItem, BeginsNoItem, EachList, RefusesItem}
+use Rattle.rdata_svcb.specs.ListItems.{BeginsStrings, EndsAtComma, BeginsUnspecial, BeginsBadItem, ContinuesToItem, BeginsItem, BeginsNoItem, EachList, RefusesItem, SpellsFirstItem, SpellsOneItem, StringsReason}
 use Rattle.rdata_svcb.specs.ParamValues.{SpellsStrings}
-use Rattle.rdata_svcb.specs.ParamRefusals.{RefusesSpelled, StringsReason}
-use Rattle.rdata_svcb.proofs.ListTexts.{TakesStrings, special_octet, unspecial_octet}
+use Rattle.rdata_svcb.specs.ParamRefusals.{RefusesSpelled}
+use Rattle.rdata_svcb.proofs.ListFaults.{front_is}
+use Rattle.rdata_svcb.proofs.ListTexts.{TakesStrings, special_octet, strings_first, strings_more, unspecial_octet}
 
 -- a text with a bad escape spells no list
 pub none_listed : (text : List ℕ) (P : List ℕ → Type 0) → BeginsBadEscape text → EachList text P
@@ -96,38 +98,25 @@ no_item_empty text rest [] h ends none list s item more b =
     omega (arith, b.0.0, ap length same.0)
 no_item_empty text rest (o ∷ front) h ends none list s item more b = absurd (omega (arith, none))
 
--- a list begins with this item
-pub item_is : (text rest front : List ℕ) → SpellsBeginning text (item_text front) rest → EndsAtComma rest → EachList text (λ list. (item more : List ℕ) → BeginsItem list item more → item ≡ front)
-item_is text rest front h ends list s item more b =
-    let on = goes_on text (item_text front) rest list h s in
-    sym (one_item front item on.0 more (sym on.2 ∙ b.2) (item_ends on.0 (list_ends rest ends on.0 on.1)) (item_ends more b.1)).0
-
-pub item_lacks : (room : Room) (text rest front old : List ℕ) → SpellsBeginning text (item_text front) rest → EndsAtComma rest → room.fits < length old + length (length front ∷ front)
-    → EachList text (λ list. (item more : List ℕ) → BeginsItem list item more → room.fits < length old + length (length item ∷ item))
-item_lacks room text rest front old h ends lacks list s item more b = omega (arith, lacks, ap length (item_is text rest front h ends list s item more b))
-
 -- no room for its length, or for its octets
-pub length_lacks : (room : Room) (text rest front old : List ℕ) → SpellsBeginning text (item_text front) rest → EndsAtComma rest → (1 ≤ room.fits - length old → ⊥)
-    → EachList text (λ list. (item more : List ℕ) → BeginsItem list item more → room.fits < length old + length (length item ∷ item))
-length_lacks room text rest front old h ends full = item_lacks room text rest front old h ends (omega (arith, full))
+pub length_exceeds : (room : Room) (text rest front old : List ℕ) → SpellsFirstItem text front rest → (1 ≤ room.fits - length old → ⊥) → ExceedsRoom room (SpellsOneItem text) old
+length_exceeds room text rest front old h full = (length front ∷ front, (front, rest, h, refl), omega (arith, full))
 
-pub octets_lack : (room : Room) (text rest front old mid : List ℕ) → SpellsBeginning text (item_text front) rest → EndsAtComma rest → mid ≡ old ++ length front ∷ [] → (length front ≤ room.fits - length mid → ⊥)
-    → EachList text (λ list. (item more : List ℕ) → BeginsItem list item more → room.fits < length old + length (length item ∷ item))
-octets_lack room text rest front old mid h ends e full = item_lacks room text rest front old h ends (omega (arith, full, ap length e, length-append old (length front ∷ [])))
+pub octets_exceed : (room : Room) (text rest front old mid : List ℕ) → SpellsFirstItem text front rest → mid ≡ old ++ length front ∷ [] → (length front ≤ room.fits - length mid → ⊥) → ExceedsRoom room (SpellsOneItem text) old
+octets_exceed room text rest front old mid h e full = (length front ∷ front, (front, rest, h, refl), omega (arith, full, ap length e, length-append old (length front ∷ [])))
 
 later_goes : (items : List (List ℕ)) → ContinuesToItem (later_text items)
 later_goes [] = inl refl
 later_goes (i ∷ is) = inr (item_text i ++ later_text is, refl)
 
 -- the first item is rejected
-pub first_refused : (room : Room) (text old : List ℕ) (e : ErrorKind) → RefusesItem room text old e → RefusesSpelled room (SpellsStrings text) StringsReason old e
-first_refused room text old e (inl lacks) = inl (lacks.0, λ octets h. by octets h.list h.items h.spelled h.is_list h.listed h.whole)
-  where
-    by : (octets list : List ℕ) (items : List (List ℕ)) → SpellsOctetList text list → IsList items → list_text items ≡ list → octets ≡ wire_strings items → room.fits < length old + length octets
-    by octets list [] s is l w = absurd (is.some refl)
-    by octets list (i ∷ items) s is l w =
-        omega (arith, lacks.1 list s i (later_text items) (All-head IsItem i items is.each, later_goes items, sym l), ap length w, length-append (length i ∷ i) (wire_strings items))
-first_refused room text old e (inr none) = inr (none.0, λ octets h. by octets h.list h.items h.spelled h.is_list h.listed)
+pub first_refused : (room : Room) (text old : List ℕ) (e : ErrorKind) → RefusesItem room text old e → RefusesSpelled (ExceedsRoom room (BeginsStrings text) old) (SpellsStrings text) (StringsReason text) e
+first_refused room text old e (inl (short, (octets, (item, rest, first, is), over))) = inl (
+  short,
+  (let t = strings_first text rest old (old ++ (length item ∷ item)) item first.0 first.1 first.2 refl in
+      (wire_strings t.items, (t.items, rest, t.is_list, t.spelled, t.ends, refl), omega (arith, over, ap length is, ap length t.gained, length-append old (length item ∷ item), length-append old (wire_strings t.items)))),
+)
+first_refused room text old e (inr none) = inr (([], text, All-nil IsItem, front_none text, none.0), λ octets h. by octets h.list h.items h.spelled h.is_list h.listed)
   where
     by : (octets list : List ℕ) (items : List (List ℕ)) → SpellsOctetList text list → IsList items → list_text items ≡ list → ⊥
     by octets list [] s is l = is.some refl
@@ -152,7 +141,7 @@ later_on (i ∷ items) (u ∷ all) more e k =
     let rest = later_on items all more one.1 (All-tail IsItem u all k) in
     (rest.0, rest.1, ap (λ z. z ∷ all) (sym one.0) ∙ ap (λ zs. i ∷ zs) rest.2, rest.3, rest.4)
 
-list_on : (items all : List (List ℕ)) (more : List ℕ) → items ≢ [] → list_text items ++ 44 ∷ more ≡ list_text all → IsList all
+pub list_on : (items all : List (List ℕ)) (more : List ℕ) → items ≢ [] → list_text items ++ 44 ∷ more ≡ list_text all → IsList all
     → (j : List ℕ) × (js : List (List ℕ)) × (all ≡ items ++ j ∷ js) × IsItem j × (more ≡ item_text j ++ later_text js)
 list_on [] all more some e k = absurd (some refl)
 list_on (i ∷ items) [] more some e k = absurd (k.some refl)
@@ -171,19 +160,22 @@ strings_on text rest tail_text old mid octets h comma s =
     let found = list_on h.items s.items next.0 h.is_list.some (ap (λ x. list_text h.items ++ x) (sym next.2) ∙ sym on.2 ∙ sym s.listed) s.is_list in
     (found.0, found.1, found.2, (next.0, next.1, (found.3, later_goes found.1, found.4)))
 
+-- items and a comma
+commas_front : (text rest after old mid : List ℕ) (h : TakesStrings text rest old mid) → SpellsBeginning rest (44 ∷ []) after → SpellsBeginning text (leading_items_text h.items) after
+commas_front text rest after old mid h comma =
+    subst (λ octets. SpellsBeginning text octets after) (sym (front_is h.items [] h.is_list.some) ∙ append-nil (leading_items_text h.items)) (front_join text (list_text h.items) rest (44 ∷ []) after h.spelled comma)
+
 -- a later item is rejected
-pub later_refused : (room : Room) (text rest after old mid : List ℕ) (o : ℕ) (e : ErrorKind) → TakesStrings text rest old mid → SpellsBeginning rest (o ∷ []) after → o ≡ 44 → RefusesItem room after mid e
-    → RefusesSpelled room (SpellsStrings text) StringsReason old e
-later_refused room text rest after old mid o e h comma is (inl lacks) = inl (lacks.0, λ octets s. short octets s)
-  where
-    short : (octets : List ℕ) → SpellsStrings text octets → room.fits < length old + length octets
-    short octets s =
-        let on = strings_on text rest after old mid octets h (subst (λ c. SpellsBeginning rest (c ∷ []) after) is comma) s in
-        let j = on.0 in let front = wire_strings h.items in let back = wire_strings on.1 in
-        let whole : octets ≡ front ++ ((length j ∷ j) ++ back) = s.whole ∙ ap wire_strings on.2 ∙ flat_map-append (λ i. length i ∷ i) h.items (j ∷ on.1) in
-        omega (arith, lacks.1 on.3.0 on.3.1 j (later_text on.1) on.3.2, ap length h.gained, length-append old front, ap length whole, length-append front ((length j ∷ j) ++ back), length-append (length j ∷ j) back)
-later_refused room text rest after old mid o e h comma is (inr none) =
-    inr (none.0, λ octets s. let on = strings_on text rest after old mid octets h (subst (λ c. SpellsBeginning rest (c ∷ []) after) is comma) s in none.1 on.3.0 on.3.1 on.0 (later_text on.1) on.3.2)
+pub later_refused : (room : Room) (text rest after old mid : List ℕ) (o : ℕ) (e : ErrorKind) → TakesStrings text rest old mid → 0 < length rest → SpellsBeginning rest (o ∷ []) after → o ≡ 44 → RefusesItem room after mid e
+    → RefusesSpelled (ExceedsRoom room (BeginsStrings text) old) (SpellsStrings text) (StringsReason text) e
+later_refused room text rest after old mid o e h some comma is (inl (short, (octets, (item, behind, first, one), over))) = inl (
+  short,
+  (let t = strings_more text rest after behind old mid (mid ++ (length item ∷ item)) item o h some comma first.0 first.1 first.2 refl in
+      (wire_strings t.items, (t.items, behind, t.is_list, t.spelled, t.ends, refl), omega (arith, over, ap length one, ap length t.gained, length-append mid (length item ∷ item), length-append old (wire_strings t.items)))),
+)
+later_refused room text rest after old mid o e h some comma is (inr none) =
+    let front = subst (λ c. SpellsBeginning rest (c ∷ []) after) is comma in
+    inr ((h.items, after, h.is_list.each, commas_front text rest after old mid h front, none.0), λ octets s. (let on = strings_on text rest after old mid octets h front s in none.1 on.3.0 on.3.1 on.0 (later_text on.1) on.3.2))
 
 -- the comma itself is always read
 pub comma_refused : (rest : List ℕ) → EndsAtComma rest → 0 < length rest → BeginsBadEscape rest → ⊥

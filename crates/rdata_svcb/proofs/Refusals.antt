@@ -1,17 +1,16 @@
 -- Texts apart by commas that spell no values.
-use Rattle.std.proofs.Common.{ℕ, suc, ◌≡◌, ◌<◌, ◌+◌, List, [], ◌∷◌, ◌++◌, length, refl, sym, subst, ap, ◌∙◌, arith, Option, Some, append_assoc, append-nil, inl, inr}
+use Rattle.std.proofs.Common.{ℕ, suc, ◌≡◌, List, [], ◌∷◌, ◌++◌, length, refl, sym, subst, ap, ◌∙◌, arith, Option, Some, append_assoc, append-nil, inl, inr}
 use Rattle.std.specs.Prelude.{All}
 use Rattle.std.specs.List.{flat_map, AllZip}
 use Rattle.std.proofs.lemmas.List.{length-append}
-use Rattle.std.proofs.lemmas.List.Concat.{flat_map-append}
 use Rattle.std.proofs.lemmas.List.Elements.{All-head, All-tail}
 use Rattle.dns_octets.specs.Room.{Room}
-use Rattle.dns_octets.specs.Appending.{Extends}
+use Rattle.dns_octets.specs.Appending.{ExceedsRoom, Extends}
 use Rattle.rdata_fields.specs.Words.{SpellsAs}
 use Rattle.rdata_values.specs.declared.error.ErrorKind.{ErrorKind}
-use Rattle.rdata_svcb.specs.Items.{IsWithout, SpellsApart, with_commas, unread_text}
-use Rattle.rdata_svcb.specs.ParamValues.{SpellsValues}
-use Rattle.rdata_svcb.specs.ParamRefusals.{RefusesSpelled}
+use Rattle.rdata_svcb.specs.Items.{BeginsApart, IsWithout, SpellsApart, with_commas, unread_text}
+use Rattle.rdata_svcb.specs.ParamValues.{BeginsValues, SpellsValues}
+use Rattle.rdata_svcb.specs.ParamRefusals.{OfSomeItem, RefusesSpelled}
 use Rattle.rdata_svcb.proofs.Apart.{TakesApart, TakesEach, IsSplit, split_left}
 
 without_tail : (mark x : ℕ) (xs : List ℕ) → IsWithout mark (x ∷ xs) → IsWithout mark xs
@@ -42,7 +41,7 @@ commas_go_on (t ∷ texts) (u ∷ all) rest h k e =
 abbrev pub SpellsOnce : {V : Type 0} → (List ℕ → V → Type 0) → Type 0
 SpellsOnce {V} spells = (text : List ℕ) (v w : V) → spells text v → spells text w → v ≡ w
 
-zip_go_on : {V : Type 0} (spells : List ℕ → V → Type 0) (texts later : List (List ℕ)) (values all : List V) → SpellsOnce spells → AllZip spells texts values → AllZip spells (texts ++ later) all
+pub zip_go_on : {V : Type 0} (spells : List ℕ → V → Type 0) (texts later : List (List ℕ)) (values all : List V) → SpellsOnce spells → AllZip spells texts values → AllZip spells (texts ++ later) all
     → (more : List V) × (all ≡ values ++ more) × AllZip spells later more
 zip_go_on spells [] later [] all once h k = (all, refl, k)
 zip_go_on spells [] later (v ∷ values) all once h k = absurd h
@@ -52,7 +51,7 @@ zip_go_on spells (t ∷ texts) later (v ∷ values) (w ∷ all) once h k =
     let rest = zip_go_on spells texts later values all once h.1 k.1 in
     (rest.0, ap (λ x. x ∷ all) (once t w v k.0 h.0) ∙ ap (λ xs. v ∷ xs) rest.1, rest.2)
 
-next_value : {V : Type 0} (spells : List ℕ → V → Type 0) (before left : List ℕ) (values all : List V) (later : List (List ℕ)) (more : List V) → IsWithout 44 before → All (IsWithout 44) later
+pub next_value : {V : Type 0} (spells : List ℕ → V → Type 0) (before left : List ℕ) (values all : List V) (later : List (List ℕ)) (more : List V) → IsWithout 44 before → All (IsWithout 44) later
     → (before ++ 44 ∷ []) ++ left ≡ with_commas later → all ≡ values ++ more → AllZip spells later more → (v : V) × (more : List V) × (all ≡ values ++ v ∷ more) × spells before v
 next_value spells before left values all [] more without k e is z = absurd (omega (arith, ap length e, length-append (before ++ 44 ∷ []) left, length-append before (44 ∷ [])))
 next_value spells before left values all (t ∷ later) [] without k e is z = absurd z
@@ -84,19 +83,31 @@ apart_once spells text a b once h k =
 pub values_once : (spells : List ℕ → List ℕ → Type 0) → SpellsOnce spells → SpellsOnce (SpellsValues spells)
 values_once spells once text a b h k = h.whole ∙ ap (flat_map (λ v. v)) (apart_once spells text h.values k.values once h.spelled k.spelled) ∙ sym k.whole
 
+-- a text continues with the next item
+pub apart_next : {V : Type 0} (spells : List ℕ → V → Type 0) (text rest before : List ℕ) (values : List V) (behind : Option (List ℕ)) → TakesApart spells text values (Some rest) → IsWithout 44 before → IsSplit rest before behind
+    → BeginsApart spells text values before
+apart_next spells text rest before values behind h without split = record {
+  texts = h.texts;
+  rest = unread_text behind;
+  apart = h.apart;
+  next = without;
+  whole = h.whole ∙ ap (λ x. with_commas h.texts ++ x) (split_left rest before behind split);
+  each = h.each;
+}
+
 -- a value is rejected after others
 pub each_refused : (room : Room) (reason : List ℕ → ErrorKind → Type 0) (spells : List ℕ → List ℕ → Type 0) (text rest before old mid : List ℕ) (behind : Option (List ℕ)) (e : ErrorKind) → SpellsOnce spells
-    → TakesEach spells text (Some rest) old mid → IsWithout 44 before → IsSplit rest before behind → RefusesSpelled room (spells before) (reason before) mid e → RefusesSpelled room (SpellsValues spells text) (λ e. (item : List ℕ) × reason item e) old e
-each_refused room reason spells text rest before old mid behind e once h without split (inl lacks) = inl (lacks.0, λ octets s. short octets s)
-  where
-    short : (octets : List ℕ) → SpellsValues spells text octets → room.fits < length old + length octets
-    short octets s =
-        let on = apart_goes_on spells text rest before h.values s.values behind once h.taken without split s.spelled in
-        let v = on.0 in let front = flat_map (λ v. v) h.values in let back = flat_map (λ v. v) on.1 in
-        let whole : octets ≡ front ++ (v ++ back) = s.whole ∙ ap (flat_map (λ v. v)) on.2 ∙ flat_map-append (λ v. v) h.values (v ∷ on.1) in
-        omega (arith, lacks.1 v on.3, ap length h.gained, length-append old front, ap length whole, length-append front (v ++ back), length-append v back)
-each_refused room reason spells text rest before old mid behind e once h without split (inr none) =
-    inr ((before, none.0), λ octets s. let on = apart_goes_on spells text rest before h.values s.values behind once h.taken without split s.spelled in none.1 on.0 on.3)
+    → TakesEach spells text (Some rest) old mid → IsWithout 44 before → IsSplit rest before behind → RefusesSpelled (ExceedsRoom room (spells before) mid) (spells before) (reason before) e
+    → RefusesSpelled (ExceedsRoom room (BeginsValues spells text) old) (SpellsValues spells text) (OfSomeItem spells reason text) e
+each_refused room reason spells text rest before old mid behind e once h without split (inl (short, (v, spelled, over))) = inl (
+  short,
+  (let front = flat_map (λ v. v) h.values in
+      (front ++ v, (h.values, before, v, apart_next spells text rest before h.values behind h.taken without split, spelled, refl), omega (arith, over, ap length h.gained, length-append old front, length-append front v))),
+)
+each_refused room reason spells text rest before old mid behind e once h without split (inr none) = inr (
+  (h.values, before, apart_next spells text rest before h.values behind h.taken without split, none.0, none.1),
+  λ octets s. (let on = apart_goes_on spells text rest before h.values s.values behind once h.taken without split s.spelled in none.1 on.0 on.3),
+)
 
 -- values of words are spelled once
 pub once_as : {V : Type 0} (valid : V → Type 0) (spells : List ℕ → V → Type 0) (wire : V → List ℕ) → ((text : List ℕ) (v w : V) → spells text v → spells text w → wire v ≡ wire w) → SpellsOnce (SpellsAs valid spells wire)

@@ -1,10 +1,10 @@
 -- How many octets parameters have.
 use Rattle.std.proofs.Common.{ℕ, zero, suc, ◌≡◌, ◌≢◌, ◌<◌, ◌≤◌, ◌+◌, ◌==◌, Bool, true, false, cond, List, [], ◌∷◌, ◌++◌, length, get_or, refl, sym, ap, ◌∙◌, arith, Option, Some, None, inl, inr}
 use Rattle.std.specs.Prelude.{MatchOption}
-use Rattle.std.specs.List.{AllByRecursion, AllPairs}
+use Rattle.std.specs.List.{AllByRecursion}
 use Rattle.std.specs.Str.{bytes_eq}
-use Rattle.std.proofs.lemmas.Bool.{cases_eq, eq-eqb, ne_eqb}
-use Rattle.std.proofs.lemmas.List.{length-append, get_or-append-add}
+use Rattle.std.proofs.lemmas.Bool.{cases_eq, eq-eqb}
+use Rattle.std.proofs.lemmas.List.{length-append}
 use Rattle.rdata_svcb.specs.Params.{param, param_if, params_wire, params_from, value_at}
 use Rattle.rdata_svcb.proofs.Entries.{entries_none, entries_first}
 use Rattle.rdata_svcb.specs.Keys.{KeyRow, named_row, key_rows, NamesKey, IsNumberedKey}
@@ -67,21 +67,6 @@ has_new (q ∷ ps) more p none = new_by q (q.0 == p.0) (value_at ps p.0) (value_
 -- parameters have the octets of some of them, and of one more
 pub wire_longer : (ps more : List (ℕ × List ℕ)) (p : ℕ × List ℕ) → p.0 < 65536 → value_at ps p.0 ≡ None → length (params_wire ps) + (4 + length p.1) ≤ length (params_wire (ps ++ p ∷ more))
 wire_longer ps more p small none = one_more (value_at ps) (value_at (ps ++ p ∷ more)) 0 65536 p.0 p.1 (has_more ps (p ∷ more)) (omega arith) (omega (arith, small)) none (has_new ps more p none)
-
-none_at : (ps : List (ℕ × List ℕ)) (key : ℕ) → ((k : ℕ) (d : ℕ × List ℕ) → k < length ps → (get_or ps k d).0 ≢ key) → value_at ps key ≡ None
-none_at [] key h = refl
-none_at (q ∷ ps) key h = ap (λ b. cond b (Some q.1) (value_at ps key)) (ne_eqb q.0 key (h 0 q (omega arith))) ∙ none_at ps key (λ k d l. h (suc k) d (omega (arith, l)))
-
-get_front : (xs ys : List (ℕ × List ℕ)) (k : ℕ) (d : ℕ × List ℕ) → k < length xs → get_or (xs ++ ys) k d ≡ get_or xs k d
-get_front [] ys k d l = absurd (omega (arith, l))
-get_front (x ∷ xs) ys zero d l = refl
-get_front (x ∷ xs) ys (suc k) d l = get_front xs ys k d (omega (arith, l))
-
--- the key of a parameter differs from each of those before it
-pub new_of_all : (ps more : List (ℕ × List ℕ)) (p : ℕ × List ℕ) → AllPairs (λ p q. p.0 ≢ q.0) (ps ++ p ∷ more) → value_at ps p.0 ≡ None
-new_of_all ps more p once = none_at ps p.0 (λ k d l same. once k (length ps) d l (omega (arith, length-append ps (p ∷ more)))
-    (ap (λ (q : ℕ × List ℕ). q.0) (get_front ps (p ∷ more) k d l) ∙ same
-    ∙ sym (ap (λ i. (get_or (ps ++ p ∷ more) i d).0) (omega arith) ∙ ap (λ (q : ℕ × List ℕ). q.0) (get_or-append-add ps (p ∷ more) 0 d))))
 
 -- keys that are named are small
 abbrev IsSmallRow : KeyRow → Type 0

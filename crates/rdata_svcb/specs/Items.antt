@@ -22,6 +22,15 @@ pub record SpellsApart {V : Type 0} (spells : List ℕ → V → Type 0) (text :
   pub whole : text ++ 44 ∷ [] ≡ with_commas texts
   pub each : AllZip spells texts values
 
+-- a text begins with texts that spell values, each before a comma; then comes an item, up to a comma or the end
+pub record BeginsApart {V : Type 0} (spells : List ℕ → V → Type 0) (text : List ℕ) (values : List V) (item : List ℕ) : Type 0 where
+  pub texts : List (List ℕ)
+  pub rest : List ℕ
+  pub apart : All (IsWithout 44) texts
+  pub next : IsWithout 44 item
+  pub whole : text ++ 44 ∷ [] ≡ with_commas texts ++ ((item ++ 44 ∷ []) ++ rest)
+  pub each : AllZip spells texts values
+
 -- the unread rest of a text, with a comma after it
 abbrev pub unread_text : Option (List ℕ) → List ℕ
 unread_text None = []

@@ -15,3 +15,4 @@ pub mod ListItems
 pub mod ShownParams
 pub mod ParamsBack
 pub mod Rows
+pub mod ReasonRows

@@ -1,21 +1,16 @@
 -- Steps of parsing service parameters.
-use Rattle.std.specs.Prelude.{ℕ, ◌≡◌, ◌+◌, ◌<◌, ◌⊎◌, ◌^◌, Option, Some, None, Result, MatchOption, List, [], ◌∷◌, ◌++◌, length}
-use Rattle.std.specs.Int.{w16, to_be_bytes}
+use Rattle.std.specs.Prelude.{ℕ, ◌≡◌, ◌+◌, ◌<◌, ◌^◌, Option, Some, None, Result, MatchOption, List, [], ◌∷◌, ◌++◌, length}
 use Rattle.dns_octets.specs.Room.{Room}
 use Rattle.dns_lexer.specs.EntryTokens.{TokenSeen}
-use Rattle.rdata_svcb.specs.Params.{params_wire, value_at, HasFittingValues, IsUnsettled}
+use Rattle.rdata_svcb.specs.Params.{param_head, params_wire, value_at, HasFittingValues, IsUnsettled}
 use Rattle.rdata_svcb.specs.ParamsFaults.{SettlesLast}
 use Rattle.rdata_svcb.specs.Keys.{NamesKey}
 use Rattle.rdata_svcb.specs.ParamValues.{SpellsValue}
-use Rattle.rdata_svcb.specs.ParamRefusals.{RefusesSpelled, FirstTokenReason, WordFault}
-use Rattle.rdata_svcb.specs.ParamTokens.{SplitsWord, IsOpenWord, IsSeparateWord, IsGluedText, SpellsParam, SpellsFirstParam}
+use Rattle.rdata_svcb.specs.ParamRefusals.{ExceedsNew, ExceedsValue, NewReason, ParamReason, RefusesSpelled, WordFault}
+use Rattle.rdata_svcb.specs.ParamTokens.{SplitsWord, IsClosedWord, IsOpenWord, IsSeparateWord, IsValueAfterWord, ReadsParam, SpellsParam, SpellsFirstParam}
 use Rattle.rdata_values.specs.declared.error.ErrorKind.{ErrorKind}
 use Rattle.rdata_svcb.specs.declared.keys.ValueKind.{ValueKind}
 use Rattle.rdata_svcb.specs.declared.parsing.ParamWord.{ParamWord}
-
--- a word does not end in its first equals sign
-abbrev pub IsClosedWord : List ℕ → Type 0
-IsClosedWord word = (name : List ℕ) → IsOpenWord word name → ⊥
 
 -- the key and the value of a word that is a parameter
 abbrev pub ReadsWord : TokenSeen → ParamWord → Type 0
@@ -25,10 +20,6 @@ ReadsWord t w = IsSeparateWord t × ((name : List ℕ) × NamesKey name w.key.co
 -- a token begins no parameter, and this is why
 abbrev pub NamesNoParam : TokenSeen → ErrorKind → Type 0
 NamesNoParam t e = WordFault t e × ((name value : List ℕ) → IsSeparateWord t → SplitsWord t.text name value → (key : ℕ) (kind : ValueKind) → NamesKey name key kind → ⊥)
-
--- a key, and two octets whose value does not matter yet
-abbrev pub param_head : ℕ → List ℕ
-param_head key = to_be_bytes w16 key ++ (0 ∷ 0 ∷ [])
 
 -- after other octets come parameters
 pub record HasParamsAfter (base : List ℕ) (params : List (ℕ × List ℕ)) (start : ℕ) (octets : List ℕ) : Type 0 where
@@ -74,10 +65,10 @@ abbrev pub ParsesParamValue : ℕ → ℕ → ValueKind → List ℕ → List �
 ParsesParamValue start at kind text old new = (value : List ℕ) × SpellsValue kind text value × SettlesValue start at value old new
 
 -- the parameter that was begun gets no such value
-abbrev pub RefusesBegun : Room → ℕ → ℕ → (List ℕ → Type 0) → (ErrorKind → Type 0) → List ℕ → ErrorKind → Type 0
-RefusesBegun room start at spelled reason old e =
+abbrev pub RefusesBegun : Room → ℕ → ℕ → ValueKind → List ℕ → List ℕ → ErrorKind → Type 0
+RefusesBegun room start at kind text old e =
     (base : List ℕ) (params : List (ℕ × List ℕ)) (key : ℕ) → HasOpenParam base params key start at old
-    → RefusesSpelled room (λ value. spelled value × CanBeAdded params key value) reason old e
+    → RefusesSpelled (ExceedsValue room kind text old) (λ value. SpellsValue kind text value × CanBeAdded params key value) (NewReason params key kind text) e
 
 -- a parameter that a word spells was appended; after an open word the value is missing yet
 abbrev pub ParsesParamWord : ℕ → TokenSeen → List ℕ → List ℕ → Option ValueKind → Type 0
@@ -86,14 +77,6 @@ ParsesParamWord start t old new None =
 ParsesParamWord start t old new (Some kind) =
     IsSeparateWord t × ((name : List ℕ) × (key : ℕ) × IsOpenWord t.text name × NamesKey name key kind × (key < 2 ^ 16) × (new ≡ old ++ param_head key))
 
--- tokens do not begin with a quoted string that is adjacent to the token before
-abbrev pub BeginsUnglued : List TokenSeen → Type 0
-BeginsUnglued tokens = (q : TokenSeen) (more : List TokenSeen) → tokens ≡ q ∷ more → IsGluedText q → ⊥
-
--- the value after an open word: a quoted string adjacent to it, or an empty value
-abbrev pub IsValueAfterWord : List TokenSeen → List ℕ → List TokenSeen → Type 0
-IsValueAfterWord tokens value left = ((value ≡ []) × (left ≡ tokens) × BeginsUnglued tokens) ⊎ ((q : TokenSeen) × IsGluedText q × (tokens ≡ q ∷ left) × (value ≡ q.text))
-
 -- the parameter that was begun has this value now
 abbrev pub ParsesQuoted : ℕ → ℕ → ValueKind → List TokenSeen → List TokenSeen → List ℕ → List ℕ → Type 0
 ParsesQuoted start at kind tokens left old new = (value octets : List ℕ) × IsValueAfterWord tokens value left × SpellsValue kind value octets × SettlesValue start at octets old new
@@ -101,6 +84,20 @@ ParsesQuoted start at kind tokens left old new = (value octets : List ℕ) × Is
 -- that value spells octets
 abbrev pub SpellsOpenValue : ValueKind → List TokenSeen → List ℕ → Type 0
 SpellsOpenValue kind tokens octets = (value : List ℕ) × (left : List TokenSeen) × IsValueAfterWord tokens value left × SpellsValue kind value octets
+
+-- that value exceeds the room
+abbrev pub ExceedsOpen : Room → ValueKind → List TokenSeen → List ℕ → Type 0
+ExceedsOpen room kind tokens old = (value : List ℕ) × (left : List TokenSeen) × IsValueAfterWord tokens value left × ExceedsValue room kind value old
+
+-- why that value is not added to parameters
+abbrev pub OpenReason : List (ℕ × List ℕ) → ℕ → ValueKind → List TokenSeen → ErrorKind → Type 0
+OpenReason params key kind tokens e = (value : List ℕ) × (left : List TokenSeen) × IsValueAfterWord tokens value left × NewReason params key kind value e
+
+-- the parameter that was begun does not get that value
+abbrev pub RefusesOpen : Room → ℕ → ℕ → ValueKind → List TokenSeen → List ℕ → ErrorKind → Type 0
+RefusesOpen room start at kind tokens old e =
+    (base : List ℕ) (params : List (ℕ × List ℕ)) (key : ℕ) → HasOpenParam base params key start at old
+    → RefusesSpelled (ExceedsOpen room kind tokens old) (λ octets. SpellsOpenValue kind tokens octets × CanBeAdded params key octets) (OpenReason params key kind tokens) e
 
 -- there are no more tokens, or the next may begin a parameter
 abbrev pub MayBeginParam : List TokenSeen → Type 0
@@ -116,14 +113,15 @@ SpellsNew params tokens octets =
     (p : ℕ × List ℕ) × (left : List TokenSeen) × SpellsFirstParam tokens p left × MayBeginParam left × CanBeAdded params p.0 p.1 × (octets ≡ param_head p.0 ++ p.1)
 
 -- no parameter is added
-abbrev pub RefusesNew : Room → ℕ → List TokenSeen → (ErrorKind → Type 0) → List ℕ → ErrorKind → Type 0
-RefusesNew room start tokens reason old e =
-    (base : List ℕ) (params : List (ℕ × List ℕ)) → HasParamsAfter base params start old → RefusesSpelled room (SpellsNew params tokens) reason old e
+abbrev pub RefusesNew : Room → ℕ → List TokenSeen → List TokenSeen → List ℕ → ErrorKind → Type 0
+RefusesNew room start tokens left old e =
+    (base : List ℕ) (params : List (ℕ × List ℕ)) → HasParamsAfter base params start old → RefusesSpelled (ExceedsNew room tokens left old) (SpellsNew params tokens) (ParamReason params tokens left) e
 
 -- no parameter is added, whichever tokens follow the rejected word
 abbrev pub RefusesParamWord : Room → ℕ → TokenSeen → List ℕ → ErrorKind → Type 0
-RefusesParamWord room start t old e = (rest : List TokenSeen) → RefusesNew room start (t ∷ rest) (FirstTokenReason t) old e
+RefusesParamWord room start t old e = (rest : List TokenSeen) → RefusesNew room start (t ∷ rest) (t ∷ rest) old e
 
 -- tokens begin with a parameter, and it was appended
 abbrev pub ParsesParam : ℕ → List TokenSeen → List TokenSeen → List ℕ → List ℕ → Type 0
-ParsesParam start tokens left old new = (p : ℕ × List ℕ) × SpellsFirstParam tokens p left × BeginsWithOneParam tokens p left × GainsParam p start old new
+ParsesParam start tokens left old new =
+    (p : ℕ × List ℕ) × SpellsFirstParam tokens p left × BeginsWithOneParam tokens p left × GainsParam p start old new × ReadsParam tokens p left

@@ -21,6 +21,10 @@ SplitsWord word name value = IsWithout 61 name × (((word ≡ name) × (value �
 abbrev pub IsOpenWord : List ℕ → List ℕ → Type 0
 IsOpenWord word name = IsWithout 61 name × (word ≡ name ++ 61 ∷ [])
 
+-- a word does not end in its first equals sign
+abbrev pub IsClosedWord : List ℕ → Type 0
+IsClosedWord word = (name : List ℕ) → IsOpenWord word name → ⊥
+
 -- a word that is not adjacent to the token before it
 abbrev pub IsSeparateWord : TokenSeen → Type 0
 IsSeparateWord t = (t.is_quoted ≡ false) × (t.is_adjacent ≡ false)
@@ -28,6 +32,14 @@ IsSeparateWord t = (t.is_quoted ≡ false) × (t.is_adjacent ≡ false)
 -- a quoted string that is adjacent to the token before it
 abbrev pub IsGluedText : TokenSeen → Type 0
 IsGluedText t = (t.is_quoted ≡ true) × (t.is_adjacent ≡ true)
+
+-- tokens do not begin with a quoted string that is adjacent to the token before
+abbrev pub BeginsUnglued : List TokenSeen → Type 0
+BeginsUnglued tokens = (q : TokenSeen) (more : List TokenSeen) → tokens ≡ q ∷ more → IsGluedText q → ⊥
+
+-- the value after an open word: a quoted string adjacent to it, or an empty value
+abbrev pub IsValueAfterWord : List TokenSeen → List ℕ → List TokenSeen → Type 0
+IsValueAfterWord tokens value left = ((value ≡ []) × (left ≡ tokens) × BeginsUnglued tokens) ⊎ ((q : TokenSeen) × IsGluedText q × (tokens ≡ q ∷ left) × (value ≡ q.text))
 
 -- the tokens after a word: its value is not among them; or its value is a quoted string adjacent to it
 abbrev pub SplitsValue : TokenSeen → List TokenSeen → List ℕ → List ℕ → List TokenSeen → Type 0
@@ -50,6 +62,28 @@ pub record SpellsFirstParam (tokens : List TokenSeen) (p : ℕ × List ℕ) (res
 abbrev pub SpellsFirstParams : List TokenSeen → List (ℕ × List ℕ) → List TokenSeen → Type 0
 SpellsFirstParams tokens [] rest = tokens ≡ rest
 SpellsFirstParams tokens (p ∷ params) rest = (middle : List TokenSeen) × SpellsFirstParam tokens p middle × SpellsFirstParams middle params rest
+
+-- The tokens begin with a parameter: its key, the text of its value, the tokens at which that text
+-- begins, and those after it. A value after an open word is a quoted string that is adjacent to it.
+abbrev pub FindsParam : List TokenSeen → ℕ → ValueKind → List ℕ → List TokenSeen → List TokenSeen → Type 0
+FindsParam [] key kind value at after = ⊥
+FindsParam (t ∷ tokens) key kind value at after =
+    IsSeparateWord t × ((name : List ℕ) × NamesKey name key kind
+    × ((SplitsWord t.text name value × IsClosedWord t.text × (at ≡ t ∷ tokens) × (after ≡ tokens)) ⊎ (IsOpenWord t.text name × (at ≡ tokens) × IsValueAfterWord tokens value after)))
+
+-- the tokens begin with a parameter, and these are after it
+abbrev pub ReadsParam : List TokenSeen → ℕ × List ℕ → List TokenSeen → Type 0
+ReadsParam tokens p after = (kind : ValueKind) × (value : List ℕ) × (at : List TokenSeen) × FindsParam tokens p.0 kind value at after × SpellsValue kind value p.1
+
+abbrev pub ReadsEachParam : List TokenSeen → List (ℕ × List ℕ) → List TokenSeen → Type 0
+ReadsEachParam tokens [] rest = tokens ≡ rest
+ReadsEachParam tokens (p ∷ params) rest = (middle : List TokenSeen) × ReadsParam tokens p middle × ReadsEachParam middle params rest
+
+-- the tokens before the rest are parameters of different keys
+pub record ReadsParams (tokens : List TokenSeen) (params : List (ℕ × List ℕ)) (rest : List TokenSeen) : Type 0 where
+  pub read : ReadsEachParam tokens params rest
+  pub once : AllPairs (λ p q. p.0 ≢ q.0) params
+  pub fitting : HasFittingValues params
 
 -- Tokens spell parameters in any order, each key once. In wire format they are in the order of
 -- their keys, and each value is one that its key allows beside the others.

@@ -1,5 +1,5 @@
 -- Values of service parameters in presentation format (RFC 9460 sections 7 and 8, RFC 9461 section 5).
-use Rattle.std.specs.Prelude.{ℕ, ◌≡◌, ◌≢◌, ◌<◌, ◌^◌, cond, List, []}
+use Rattle.std.specs.Prelude.{ℕ, ◌≡◌, ◌≢◌, ◌<◌, ◌^◌, cond, List, [], ◌++◌}
 use Rattle.std.specs.Int.{w16, to_be_bytes}
 use Rattle.std.specs.List.{flat_map, range_with_len, AllPairs}
 use Rattle.std.specs.Net.Addr.{ipv4_octets, ipv6_octets, IsIpv4Addr, IsIpv6Addr}
@@ -11,7 +11,7 @@ use Rattle.rdata_fields.specs.Words.{SpellsAs, SpellsBelow}
 use Rattle.rdata_values.specs.Bitmap.{SameTypes, has}
 use Rattle.rdata_svcb.specs.Texts.{IsList, list_text, wire_strings}
 use Rattle.rdata_tokens.specs.Spelling.{SpellsOctetList}
-use Rattle.rdata_svcb.specs.Items.{SpellsApart}
+use Rattle.rdata_svcb.specs.Items.{BeginsApart, SpellsApart}
 use Rattle.rdata_svcb.specs.Keys.{NamesKey}
 use Rattle.rdata_svcb.specs.declared.keys.ValueKind.{ValueKind}
 use Rattle.rdata_svcb.specs.declared.keys.ValueKind.TheVariants.{Keys, Strings, Nothing, Port, Ipv4, Digits, Ipv6, Octets}
@@ -47,6 +47,10 @@ pub record SpellsValues (spells : List ℕ → List ℕ → Type 0) (text octets
   pub values : List (List ℕ)
   pub spelled : SpellsApart spells text values
   pub whole : octets ≡ flat_map (λ v. v) values
+
+-- a text begins with values separated by commas, whose octets are one after another
+abbrev pub BeginsValues : (List ℕ → List ℕ → Type 0) → List ℕ → List ℕ → Type 0
+BeginsValues spells text octets = (values : List (List ℕ)) × (item value : List ℕ) × BeginsApart spells text values item × spells item value × (octets ≡ flat_map (λ v. v) values ++ value)
 
 -- after the escapes of a token are decoded, a text is that of a list, which has escapes of its own
 -- (RFC 9460 appendix A.1)

@@ -21,6 +21,10 @@ abbrev pub param_if : ℕ → Option (List ℕ) → List ℕ
 param_if key None = []
 param_if key (Some value) = param key value
 
+-- a key, and two octets whose value does not matter yet
+abbrev pub param_head : ℕ → List ℕ
+param_head key = to_be_bytes w16 key ++ (0 ∷ 0 ∷ [])
+
 -- the parameters with a value, of `count` keys from the first on
 unfoldable pub params_from : (ℕ → Option (List ℕ)) → ℕ → ℕ → List ℕ
 params_from value first count = flat_map (λ key. param_if key (value key)) (range_with_len first count)

@@ -1,8 +1,8 @@
 -- Why a list of strings is rejected, in presentation format and in wire format.
 use Rattle.std.specs.Prelude.{◌≡◌, ◌≢◌, ◌⊎◌, ℕ, ◌+◌, ◌<◌, List, [], ◌∷◌, ◌++◌, length, All, slice_index}
 use Rattle.dns_octets.specs.Room.{Room}
-use Rattle.dns_octets.specs.Appending.{LacksRoom}
-use Rattle.rdata_svcb.specs.Texts.{list_text, leading_items_text, wire_strings, IsItem, IsList, EndsItem, SplitsItem, BeginsNoString, SpellsList, HasListText}
+use Rattle.dns_octets.specs.Appending.{ExceedsRoom}
+use Rattle.rdata_svcb.specs.Texts.{list_text, leading_items_text, wire_strings, IsItem, IsList, EndsItem, SplitsItem, BeginsNoString}
 use Rattle.rdata_svcb.specs.Values.{AreWireStrings}
 use Rattle.rdata_values.specs.declared.error.ErrorKind.{ErrorKind}
 use Rattle.rdata_values.specs.declared.error.ErrorKind.TheVariants.{ListString, ListEscape, ShortBuf}
@@ -26,10 +26,18 @@ IsStringsFault room old octets ListString = (front : List (List ℕ)) × (rest :
 IsStringsFault room old octets ShortBuf = (items : List (List ℕ)) × (rest : List ℕ) × IsList items × (octets ≡ wire_strings items ++ rest) × (room.fits < length old + length (list_text items))
 IsStringsFault room old octets other = ⊥
 
--- why a text is not appended as a list: its wire format doesn't surely fit; or it is not the text of a list
-abbrev pub RefusesList : Room → List ℕ → List ℕ → ErrorKind → Type 0
-RefusesList room text old e = ((e ≡ ShortBuf) × LacksRoom room (SpellsList text) old) ⊎ ((items : List (List ℕ)) → IsList items → list_text items ≢ text)
+-- the items that a text begins with, each after its length
+abbrev pub BeginsList : List ℕ → List ℕ → Type 0
+BeginsList text octets = (front : List (List ℕ)) × (rest item after : List ℕ) × All IsItem front × (text ≡ leading_items_text front ++ rest) × SplitsItem rest item after × IsItem item × (octets ≡ wire_strings front ++ (length item ∷ item))
 
--- why octets are not appended as the text of a list: the text doesn't surely fit; or there are no strings
+-- the text of the strings that octets begin with
+abbrev pub BeginsListText : List ℕ → List ℕ → Type 0
+BeginsListText octets text = (items : List (List ℕ)) × (rest : List ℕ) × IsList items × (octets ≡ wire_strings items ++ rest) × (text ≡ list_text items)
+
+-- why a text is not appended as a list: the items that it begins with exceed the room; or it is not the text of a list
+abbrev pub RefusesList : Room → List ℕ → List ℕ → ErrorKind → Type 0
+RefusesList room text old e = ((e ≡ ShortBuf) × ExceedsRoom room (BeginsList text) old) ⊎ ((items : List (List ℕ)) → IsList items → list_text items ≢ text)
+
+-- why octets are not appended as the text of a list: that of the strings that they begin with exceeds the room; or there are no strings
 abbrev pub RefusesStrings : Room → List ℕ → List ℕ → ErrorKind → Type 0
-RefusesStrings room octets old e = ((e ≡ ShortBuf) × LacksRoom room (HasListText octets) old) ⊎ ((octets ≡ []) ⊎ ¬ AreWireStrings octets)
+RefusesStrings room octets old e = ((e ≡ ShortBuf) × ExceedsRoom room (BeginsListText octets) old) ⊎ ((octets ≡ []) ⊎ ¬ AreWireStrings octets)

@@ -3,9 +3,9 @@ ghost use Rattle.std.specs.Prelude.{◌≡◌, ◌≢◌, ◌+◌, ◌≤◌, []
 ghost use Rattle.dns_octets.specs.Appending.{Extends, Gains, LacksRoom};
 ghost use Rattle.dns_lexer.specs.EntryTokens.{token_seen};
 ghost use Rattle.rdata_svcb.specs.ParamTokens.{SpellsParams};
-ghost use Rattle.rdata_svcb.specs.ParamRefusals.{NewReason, ParamReason, RefusesParams, ValueFault};
-ghost use Rattle.rdata_svcb.specs.ParamValues.{SpellsValue};
-ghost use Rattle.rdata_svcb.specs.ParamSteps.{param_head, ReadsWord, NamesNoParam, RefusesBegun, RefusesNew, RefusesParamWord, SettlesParam, SpellsOpenValue, ParsesParam, ParsesParamWord, ParsesQuoted, ParsesParamValue};
+ghost use Rattle.rdata_svcb.specs.ParamRefusals.{RefusesParams};
+ghost use Rattle.rdata_svcb.specs.Params.{param_head};
+ghost use Rattle.rdata_svcb.specs.ParamSteps.{ReadsWord, NamesNoParam, RefusesBegun, RefusesNew, RefusesOpen, RefusesParamWord, SettlesParam, ParsesParam, ParsesParamWord, ParsesQuoted, ParsesParamValue};
 
 use crate::items::split_first;
 use crate::keys::{SpelledKey, ValueKind, key_from_text};
@@ -94,8 +94,7 @@ fn parse_value<B: OctetsBuilder + AsOctetsMut>(
     requires within { at + 4 ≤ length (B.octets target.old) }
     ensures ok { OnOk result (ParsesParamValue start at kind text.now
         (B.octets target.old) (B.octets target.new)) }
-    ensures err { IfErr result (RefusesBegun B.room start at (SpellsValue kind text.now)
-        (NewReason kind text.now) (B.octets target.old)) }
+    ensures err { IfErr result (RefusesBegun B.room start at kind text.now (B.octets target.old)) }
     ensures extends { OnErr result (Extends (B.octets target.old) (B.octets target.new)) }
 {
     append_value(kind, text, target)?;
@@ -141,8 +140,9 @@ fn parse_quoted<S: TokenSource, B: OctetsBuilder + AsOctetsMut>(
     requires within { at + 4 ≤ length (B.octets target.old) }
     ensures ok { OnOk result (ParsesQuoted start at kind (S.left source.old) (S.left source.new)
         (B.octets target.old) (B.octets target.new)) }
-    ensures err { IfErr result (RefusesBegun B.room start at
-        (SpellsOpenValue kind (S.left source.old)) ValueFault (B.octets target.old)) }
+    ensures err { IfErr result (RefusesOpen B.room start at kind (S.left source.old)
+        (B.octets target.old)) }
+    ensures left { OnErr result (S.left source.new ≡ S.left source.old) }
     ensures extends { OnErr result (Extends (B.octets target.old) (B.octets target.new)) }
     ensures end { S.end source.new ≡ S.end source.old }
 {
@@ -167,8 +167,8 @@ fn parse_param<S: TokenSource, B: OctetsBuilder + AsOctetsMut>(
     requires start { start ≤ length (B.octets target.old) }
     ensures ok { OnOk result (ParsesParam start (S.left source.old) (S.left source.new)
         (B.octets target.old) (B.octets target.new)) }
-    ensures err { IfErr result (RefusesNew B.room start (S.left source.old)
-        (ParamReason (S.left source.new)) (B.octets target.old)) }
+    ensures err { IfErr result (RefusesNew B.room start (S.left source.old) (S.left source.new)
+        (B.octets target.old)) }
     ensures extends { OnErr result (Extends (B.octets target.old) (B.octets target.new)) }
     ensures end { S.end source.new ≡ S.end source.old }
 {

@@ -7,8 +7,8 @@
 ghost use Rattle.std.specs.Prelude.{◌≡◌, [], IfOk, IfErr, OnOk, OnErr};
 ghost use Rattle.dns_octets.specs.Appending.{Extends, Gains};
 ghost use Rattle.rdata_svcb.specs.Texts.{is_special};
-ghost use Rattle.rdata_svcb.specs.ListItems.{AppendsItem, FindsItemOctet, SpellsFirstItem, SpellsSpecial, EachList, BeginsUnspecial, BeginsBadItem, BeginsNoItem, RefusesItem};
-ghost use Rattle.rdata_svcb.specs.ParamRefusals.{RefusesValue, StringsReason};
+ghost use Rattle.rdata_svcb.specs.ListItems.{AppendsItem, FindsItemOctet, SpellsFirstItem, SpellsSpecial, EachList, BeginsUnspecial, BeginsBadItem, BeginsNoItem, FirstItemReason, OctetFault, RefusesItem, SpecialFault};
+ghost use Rattle.rdata_svcb.specs.ParamRefusals.{RefusesValue};
 ghost use Rattle.rdata_svcb.specs.ParamValues.{SpellsStrings};
 ghost use Rattle.rdata_svcb.specs.declared.keys.ValueKind.TheVariants.{Strings};
 
@@ -37,7 +37,7 @@ pub(crate) fn is_escaped(octet: u8) -> bool
 /// Returns the octet of an item after the backslash that the text begins with.
 fn octet_after_backslash(text: &[u8]) -> Result<ItemOctet<'_>, ErrorKind>
     ensures ok { IfOk result (SpellsSpecial text.now) }
-    ensures err { IfErr result (λ e. StringsReason e × EachList text.now BeginsUnspecial) }
+    ensures err { IfErr result (λ e. SpecialFault text.now e × EachList text.now BeginsUnspecial) }
 {
     if text.is_empty() {
         return Err(ErrorKind::ListEscape);
@@ -55,7 +55,7 @@ fn octet_after_backslash(text: &[u8]) -> Result<ItemOctet<'_>, ErrorKind>
 /// Returns the octet of an item that a text begins with. Returns `None` at a comma and at the end.
 fn first_of_item(text: &[u8]) -> Result<Option<ItemOctet<'_>>, ErrorKind>
     ensures ok { IfOk result (FindsItemOctet text.now) }
-    ensures err { IfErr result (λ e. StringsReason e × EachList text.now BeginsBadItem) }
+    ensures err { IfErr result (λ e. OctetFault text.now e × EachList text.now BeginsBadItem) }
 {
     if text.is_empty() {
         return Ok(None);
@@ -78,7 +78,7 @@ fn first_of_item(text: &[u8]) -> Result<Option<ItemOctet<'_>>, ErrorKind>
 fn read_item<'a>(text: &'a [u8], item: &mut ArrayVec<u8, MOST>) -> Result<&'a [u8], ErrorKind>
     requires { item.old.items ≡ [] }
     ensures ok { IfOk result (λ rest. SpellsFirstItem text.now item.new.items rest.now) }
-    ensures err { IfErr result (λ e. StringsReason e × EachList text.now BeginsNoItem) }
+    ensures err { IfErr result (λ e. FirstItemReason text.now e × EachList text.now BeginsNoItem) }
 {
     let mut rest = text;
     while let Some(first) = first_of_item(rest)? {

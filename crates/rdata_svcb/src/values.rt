@@ -1,10 +1,10 @@
 //! Parses values of service parameters (RFC 9460 sections 7 and 8).
 ghost use Rattle.std.specs.Prelude.{◌≡◌, ◌≢◌, ◌++◌, [], IfErr, OnOk, OnErr};
-ghost use Rattle.dns_octets.specs.Appending.{Extends, Gains, LacksRoom};
+ghost use Rattle.dns_octets.specs.Appending.{ExceedsRoom, Extends, Gains, LacksRoom};
 ghost use Rattle.rdata_fields.specs.Words.{SpellsAs};
 ghost use Rattle.rdata_values.specs.declared.error.ErrorKind.TheVariants.{UnexpectedValue};
 ghost use Rattle.rdata_svcb.specs.ParamRefusals.{OfSomeItem, RefusesKeys, RefusesSpelled, RefusesValue};
-ghost use Rattle.rdata_svcb.specs.ParamValues.{NamesKeys, SpellsKeys, SpellsValues, SpellsValue, key_wire, keys_wire};
+ghost use Rattle.rdata_svcb.specs.ParamValues.{BeginsValues, NamesKeys, SpellsKeys, SpellsValues, SpellsValue, key_wire, keys_wire};
 ghost use Rattle.rdata_svcb.specs.declared.keys.ValueKind.TheVariants.{Keys};
 
 use crate::items::split_first;
@@ -23,8 +23,9 @@ fn append_one<W: Word + Drop, B: OctetsBuilder>(
 ) -> Result<(), ErrorKind>
     ensures ok { OnOk result (Gains (SpellsAs W.valid W.spells W.wire text.now)
         (B.octets target.old) (B.octets target.new)) }
-    ensures err { IfErr result (RefusesSpelled B.room (SpellsAs W.valid W.spells W.wire text.now)
-        (W.reason text.now) (B.octets target.old)) }
+    ensures err { IfErr result (RefusesSpelled
+        (ExceedsRoom B.room (SpellsAs W.valid W.spells W.wire text.now) (B.octets target.old))
+        (SpellsAs W.valid W.spells W.wire text.now) (W.reason text.now)) }
     ensures extends { OnErr result (Extends (B.octets target.old) (B.octets target.new)) }
 {
     let value = W::from_text(text)?;
@@ -39,9 +40,11 @@ fn append_each<W: Word + Drop, B: OctetsBuilder>(
 ) -> Result<(), ErrorKind>
     ensures ok { OnOk result (Gains (SpellsValues (SpellsAs W.valid W.spells W.wire) text.now)
         (B.octets target.old) (B.octets target.new)) }
-    ensures err { IfErr result (RefusesSpelled B.room
+    ensures err { IfErr result (RefusesSpelled
+        (ExceedsRoom B.room (BeginsValues (SpellsAs W.valid W.spells W.wire) text.now)
+        (B.octets target.old))
         (SpellsValues (SpellsAs W.valid W.spells W.wire) text.now)
-        (OfSomeItem W.reason) (B.octets target.old)) }
+        (OfSomeItem (SpellsAs W.valid W.spells W.wire) W.reason text.now)) }
     ensures extends { OnErr result (Extends (B.octets target.old) (B.octets target.new)) }
 {
     let mut left = Some(text);

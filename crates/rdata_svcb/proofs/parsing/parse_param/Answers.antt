@@ -23,7 +23,7 @@ returns-in_err-parse_quoted-clause-err g c =
     let tokens = left c.args.source.now in let rest = left c.advance.new.self in
     let first = first_taken t tokens c.in-Some.ensures ∙ ap (λ ts. t ∷ ts) (sym c.advance.ensures.left) in
     rw (p.1, p.2) (quoted_refused c.args.start t tokens rest (octets c.args.target.now) first g.B.OctetsBuilder.room (length c.as_slice-at.result.now) c.in-Some-open.kind (left c.parse_quoted.new.source)
-    (octets c.parse_word.new.target) _ (ap length c.as_slice-at.ensures.value) (rw c.in-Some-open.is at c.in_ok-open.ensures.ok) c.in_err-parse_quoted.ensures.err)
+    (octets c.parse_word.new.target) _ (ap length c.as_slice-at.ensures.value) c.in_err-parse_quoted.ensures.left (rw c.in-Some-open.is at c.in_ok-open.ensures.ok) c.in_err-parse_quoted.ensures.err)
 
 pub returns-in_ok-parse_quoted-clause-ok : goal.returns-in_ok-parse_quoted-clause-ok
 returns-in_ok-parse_quoted-clause-ok g c =

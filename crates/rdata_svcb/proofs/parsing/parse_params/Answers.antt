@@ -3,7 +3,7 @@ use Rattle.rdata_fields.specs.RecordErrors.{error_at}
 use Rattle.rdata_fields.specs.Source.{next_place}
 use Rattle.rdata_fields.proofs.Tokens.{none_left}
 use Rattle.rdata_svcb.proofs.ParamParts.{part_behind}
-use Rattle.rdata_svcb.proofs.ParamSequences.{fewer_tokens, next_refused, none_right, params_all, params_more, params_none, some_left}
+use Rattle.rdata_svcb.proofs.ParamSequences.{fewer_tokens, next_refused, none_right, params_all, params_more, params_none, some_left, together_refused}
 use Rattle.rdata_svcb.proofs.Refusals.{more_extends}
 use Rattle.rdata_svcb.proofs.parsing.parse_params.Goals as goal
 
@@ -25,7 +25,7 @@ loop-source-preserved g c =
     let some = some_left c.current.result (g.S.TokenSource.left c.loop-source.source) c.current.ensures (sym c.is_some.ensures ∙ c.loop-source-test.true) in
     record {
       taken = params_more (g.S.TokenSource.left c.args.source.now) (g.S.TokenSource.left c.loop-source.source) (g.S.TokenSource.left c.parse_param.new.source) (length c.as_slice-start.result.now)
-          (g.B.AsOctets.octets c.args.target.now) (g.B.AsOctets.octets c.loop-source.target) (g.B.AsOctets.octets c.parse_param.new.target) ok.0 i.taken i.start some ok.1 ok.2 ok.3;
+          (g.B.AsOctets.octets c.args.target.now) (g.B.AsOctets.octets c.loop-source.target) (g.B.AsOctets.octets c.parse_param.new.target) ok.0 i.taken i.start some ok.1 ok.2 ok.3 ok.4;
       start = i.start;
       end = c.parse_param.ensures.end ∙ i.end;
     }
@@ -62,7 +62,8 @@ returns-in-Err-check_params-clause-err g c =
     rw c.at-in-Err-check_params.ensures (
       ap (λ p. error_at p bad.why) (c.place-in-Err-check_params.ensures ∙ ap (λ e. next_place left e.at) i.end),
       inr (
-        inr (none, (_, bad.ensures.fault)),
+        together_refused (g.S.TokenSource.left c.args.source.now) left old new _ bad.why i.taken none
+            (λ octets e. part_behind new c.as_slice.result.now old octets (length c.as_slice-start.result.now) c.as_slice.ensures.value e i.start) bad.ensures.fault,
         none_right (g.S.TokenSource.left c.args.source.now) left old new _ i.taken none
             (λ octets e. part_behind new c.as_slice.result.now old octets (length c.as_slice-start.result.now) c.as_slice.ensures.value e i.start) bad.ensures.err,
       ),

@@ -8,7 +8,7 @@ pub returns-in_default-clause-err : goal.returns-in_default-clause-err
 returns-in_default-clause-err c =
     let s = c.split_first-split in
     let none = names_no_key c.args.token.now.text.now s.result.before.now (option_copied s.result.behind) s.ensures.without s.ensures.split c.in_default.ensures in
-    (inr (inr (refl, none)), λ name value apart split key kind names. none name value split key kind names)
+    (inr (inr (refl, (c.if-token-2.false, c.if-token.false), none)), λ name value apart split key kind names. none name value split key kind names)
 
 pub returns-in_default-behind-clause-ok : goal.returns-in_default-behind-clause-ok
 returns-in_default-behind-clause-ok c =

@@ -41,4 +41,4 @@ returns-in_err-rest-2-clause-err g c =
     let some : 0 < length rest = omega (arith, eqb-false (length rest) 0 (sym c.loop-rest-test.ensures)) in
     let p = err_from_is_err_and c.from_residual-in_err-rest-2.result c.from_residual-in_err-rest-2.ensures.1 in
     rw (p.1, p.2) (later_refused g.B.OctetsBuilder.room c.args.text.now rest comma.rest.now (g.B.AsOctets.octets c.args.target.now) (g.B.AsOctets.octets c.loop-rest.target) comma.octet _
-    c.loop-rest.invariant c.in_ok-comma.ensures (comma_is rest comma.rest.now comma.octet c.loop-rest.invariant.ends some c.in_ok-comma.ensures) c.in_err-rest-2.ensures.err)
+    c.loop-rest.invariant some c.in_ok-comma.ensures (comma_is rest comma.rest.now comma.octet c.loop-rest.invariant.ends some c.in_ok-comma.ensures) c.in_err-rest-2.ensures.err)

@@ -1,7 +1,7 @@
 use Rattle.std.proofs.Common.{refl, inl, inr}
 use Rattle.std.proofs.lemmas.Result.{err_from_is_err_and}
-use Rattle.rdata_svcb.proofs.KeySets.{spells_keys}
-use Rattle.rdata_svcb.proofs.KeyRefusals.{wire_of_text}
+use Rattle.rdata_svcb.proofs.KeySets.{spells_keys, spells_wire}
+use Rattle.rdata_svcb.specs.ParamValues.{keys_wire}
 use Rattle.rdata_svcb.proofs.values.append_keys.Goals as goal
 
 pub returns-clause-ok : goal.returns-clause-ok
@@ -19,4 +19,5 @@ pub returns-in_err-append_set-clause-err : goal.returns-in_err-append_set-clause
 returns-in_err-append_set-clause-err g c =
     let p = err_from_is_err_and c.from_residual-in_err-append_set.result c.from_residual-in_err-append_set.ensures.1 in
     let ok = c.in_ok-read_keys.ensures.ok in
-    rw (p.1, p.2) (inl (refl, λ octets h. c.in_err-append_set.ensures.lacks octets (wire_of_text c.args.text.now c.read_keys.new.keys octets ok.0 ok.1 ok.3 h)))
+    let set = c.read_keys.new.keys in
+    rw (p.1, p.2) (inl (refl, (keys_wire set, spells_wire c.args.text.now set ok.0 ok.1 ok.2 ok.3, c.in_err-append_set.ensures.lacks (keys_wire set) refl)))
