@@ -4,7 +4,7 @@ use Rattle.std.proofs.lemmas.List.{append_assoc}
 use Rattle.rdata_fields.specs.Fields.{field_form}
 use Rattle.rdata_fields.specs.Parsing.{SpellsFields}
 use Rattle.rdata_fields.specs.declared.field.Field.{Field}
-use Rattle.rdata_fields.specs.declared.field.Field.TheVariants.{Number8 as OfNumber8, Number16 as OfNumber16, Number32 as OfNumber32, Interval as OfInterval, Ipv4 as OfIpv4, Ipv6 as OfIpv6, RecordType as OfRecordType, SigType as OfSigType, Algorithm as OfAlgorithm, CertificateType as OfCertificateType, Eui48 as OfEui48, Eui64 as OfEui64, Time as OfTime, Locator as OfLocator, String as OfString, PsdnAddress as OfPsdnAddress, Tag as OfTag, Salt as OfSalt, Hash as OfHash, Name as OfName}
+use Rattle.rdata_fields.specs.declared.field.Field.TheVariants.{Number8 as OfNumber8, Number16 as OfNumber16, Number32 as OfNumber32, Interval as OfInterval, Ipv4 as OfIpv4, Ipv6 as OfIpv6, RecordType as OfRecordType, SigType as OfSigType, Algorithm as OfAlgorithm, CertificateType as OfCertificateType, SyncScheme as OfSyncScheme, Eui48 as OfEui48, Eui64 as OfEui64, Time as OfTime, Locator as OfLocator, String as OfString, PsdnAddress as OfPsdnAddress, Tag as OfTag, Salt as OfSalt, Hash as OfHash, Name as OfName}
 use Rattle.rdata_fields.proofs.FormLaws.{fields_are_forms}
 use Rattle.rdata_fields.proofs.Refused.{fields_front}
 use Rattle.rdata_tokens.specs.NameSpelling.{IsOrigin}
@@ -30,6 +30,7 @@ wire_of_field origin OfRecordType octets h = h
 wire_of_field origin OfSigType octets h = h
 wire_of_field origin OfAlgorithm octets h = h
 wire_of_field origin OfCertificateType octets h = h
+wire_of_field origin OfSyncScheme octets h = h
 wire_of_field origin OfEui48 octets h = h
 wire_of_field origin OfEui64 octets h = h
 wire_of_field origin OfTime octets h = h

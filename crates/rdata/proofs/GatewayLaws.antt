@@ -1,5 +1,5 @@
 -- Gateways, as words and as octets.
-use Rattle.std.proofs.Common.{ℕ, false, ◌≡◌, ◌≢◌, ◌<◌, ◌≤◌, ◌-◌, ◌*◌, ◌^◌, Option, Some, None, List, [], ◌∷◌, ◌++◌, length, take, drop, refl, sym, ap, subst, ◌∙◌, inl, inr, arith, length-append, take_at, take-append-drop, length-take-le, length-drop}
+use Rattle.std.proofs.Common.{ℕ, false, ◌≡◌, ◌≢◌, ◌<◌, ◌≤◌, ◌+◌, ◌-◌, ◌*◌, ◌^◌, Option, Some, None, List, [], ◌∷◌, ◌++◌, length, take, drop, refl, sym, ap, subst, ◌∙◌, inl, inr, arith, length-append, take_at, take-append-drop, length-take-le, length-drop}
 use Rattle.std.specs.Prelude.{Result, Ok, Err, slice_index}
 use Rattle.std.proofs.lemmas.List.Elements.{All-tail}
 use Rattle.rdata_tokens.proofs.Pieces.{rest_of}
@@ -7,11 +7,12 @@ use Rattle.std.specs.Net.Addr.{ipv6_segments}
 use Rattle.std.specs.declared.net.Ipv4Addr.{Ipv4Addr}
 use Rattle.std.specs.declared.net.Ipv6Addr.{Ipv6Addr}
 use Rattle.dns_octets.specs.Room.{Room}
-use Rattle.dns_octets.specs.Appending.{Gains, LacksRoom}
+use Rattle.dns_octets.specs.Appending.{Gains, ExceedsRoom}
 use Rattle.rdata_tokens.specs.declared.kind.DigitsKind.TheVariants.{Base64 as InBase64}
-use Rattle.rdata_fields.specs.Parsing.{SpellsField}
+use Rattle.rdata_fields.specs.Parsing.{BeginsField, SpellsField}
 use Rattle.rdata_fields.specs.declared.field.Field.TheVariants.{Number8 as OfNumber8, Name as OfName}
 use Rattle.rdata_fields.proofs.Refused.{field_once}
+use Rattle.rdata_fields.proofs.FormLaws.{fields_begun}
 use Rattle.rdata_values.specs.Numbers.{SpellsNumber}
 use Rattle.rdata_tails.specs.Gateways.{IsGateway, gateway_type, gateway_octets, SpellsGateway, BeginsWithGateway}
 use Rattle.rdata_tails.specs.declared.gateway.Gateway.{Gateway}
@@ -29,8 +30,8 @@ use Rattle.rdata.specs.Rests.{RestForm, RefusesAs, RefusesRest, ParsesTail, some
 use Rattle.rdata.specs.TokenForms.{FieldReason, ParsesTokenAs, then_form}
 use Rattle.rdata_fields.specs.declared.record_error.RecordError.{RecordError}
 use Rattle.rdata_values.specs.declared.error.ErrorKind.TheVariants.{UnknownGateway}
-use Rattle.rdata.proofs.Joinings.{joined_once}
-use Rattle.rdata.proofs.TokenRests.{SpelledOnce, as_other, then_once, behind_taken}
+use Rattle.rdata.proofs.Joinings.{joined_once, digits_exceeded}
+use Rattle.rdata.proofs.TokenRests.{SpelledOnce, BegunWithin, whole_within, as_other, then_once, then_exceeded, behind_taken}
 
 -- ---- what is spelled is spelled once
 
@@ -82,6 +83,32 @@ pub gateway_key_once : (origin : Option (List (List ℕ))) (tokens : List TokenS
 gateway_key_once origin tokens a b h k =
     then_once gateway_type_form (λ number. behind_type origin (slice_index number 0)) gateway_type_once (λ front ts. type_once origin (slice_index front 0) ts) tokens a b h k
 
+-- ---- what begins to exceed the room exceeds it
+
+-- a beginning of a gateway is not longer
+gateway_within : (origin : Option (List (List ℕ))) (number : ℕ) → BegunWithin (gateway_form origin number).begins (gateway_form origin number).spells
+gateway_within origin number t front octets (inl h) (inl k) = fields_begun origin OfName t.is_quoted t.text front octets h.1 k.1
+gateway_within origin number t front octets (inl h) (inr k) = absurd (no_name number k.1.0 h.0 k.1.1.1)
+gateway_within origin number t front octets (inr h) (inl k) = absurd (no_name number h.1.0 k.0 h.1.1.1)
+gateway_within origin number t front octets (inr h) (inr k) = whole_within (SpellsAddress number) (address_once number) t front octets h k
+
+module _ (origin : Option (List (List ℕ))) (room : Room) (left : List TokenSeen) where
+  behind_exceeded : (number algorithm : ℕ) (tokens : List TokenSeen) (old octets : List ℕ) → (behind_algorithm origin number algorithm).exceeds room tokens left old → (behind_algorithm origin number algorithm).spells tokens octets
+      → room.fits < length old + length octets
+  behind_exceeded number algorithm tokens old octets h sp =
+      then_exceeded (gateway_form origin number) (λ gateway. key_form algorithm) room left old octets (gateway_once origin number) (gateway_within origin number)
+      (λ front ts o back e k. digits_exceeded InBase64 room ts left o back e k.0) tokens h sp
+
+  type_exceeded : (number : ℕ) (tokens : List TokenSeen) (old octets : List ℕ) → (behind_type origin number).exceeds room tokens left old → (behind_type origin number).spells tokens octets → room.fits < length old + length octets
+  type_exceeded number tokens old octets h sp =
+      then_exceeded octet_form (λ algorithm. behind_algorithm origin number (slice_index algorithm 0)) room left old octets octet_once (whole_within octet_form.spells octet_once)
+      (λ front ts o back e k. behind_exceeded number (slice_index front 0) ts o back e k) tokens h sp
+
+  pub gateway_key_exceeded : (tokens : List TokenSeen) (old octets : List ℕ) → (gateway_key_form origin).exceeds room tokens left old → (gateway_key_form origin).spells tokens octets → room.fits < length old + length octets
+  gateway_key_exceeded tokens old octets h sp =
+      then_exceeded gateway_type_form (λ number. behind_type origin (slice_index number 0)) room left old octets gateway_type_once (whole_within gateway_type_form.spells gateway_type_once)
+      (λ front ts o back e k. type_exceeded (slice_index front 0) ts o back e k) tokens h sp
+
 -- ---- the type
 
 type_spelled : (t : TokenSeen) (number : ℕ) → t.is_quoted ≡ false → SpellsNumber t.text number → number < 2 ^ 8 → octet_form.spells t (number ∷ [])
@@ -96,26 +123,27 @@ type_above t number plain h more =
 
 -- ---- an address
 
-pub address_lacks : (room : Room) (number : ℕ) (t : TokenSeen) (old : List ℕ) (g : Gateway) → t.is_quoted ≡ false → SpellsGateway number t.text g → (length (gateway_octets g) ≤ room.fits - length old → ⊥) → LacksRoom room (SpellsAddress number t) old
-address_lacks room number t old g plain own few octets sp =
-    let same : length octets ≡ length (gateway_octets g) = ap length (address_once number t octets (gateway_octets g) sp (plain, (g, own, refl))) in omega (arith, few, same)
+pub address_exceeds : (room : Room) (number : ℕ) (t : TokenSeen) (old : List ℕ) (g : Gateway) → t.is_quoted ≡ false → SpellsGateway number t.text g → (length (gateway_octets g) ≤ room.fits - length old → ⊥) → ExceedsRoom room (SpellsAddress number t) old
+address_exceeds room number t old g plain own few = (gateway_octets g, (plain, (g, own, refl)), omega (arith, few))
 
 -- ---- the gateway of a type
 
 module _ (origin : Option (List (List ℕ))) (number : ℕ) (room : Room) (end : ℕ) (tokens : List TokenSeen) (old : List ℕ) (r : Result (Unit {0}) RecordError) (left : List TokenSeen) (new : List ℕ) where
-  pub name_taken : number ≡ 3 → ParsesTokenAs room (SpellsField origin OfName) (FieldReason origin OfName) end tokens old r left new
-      → ParsesTokenAs room (gateway_form origin number).spells (gateway_form origin number).reason end tokens old r left new
+  pub name_taken : number ≡ 3 → ParsesTokenAs room (BeginsField origin OfName) (SpellsField origin OfName) (FieldReason origin OfName) end tokens old r left new
+      → ParsesTokenAs room (gateway_form origin number).begins (gateway_form origin number).spells (gateway_form origin number).reason end tokens old r left new
   name_taken three h =
-      as_other (SpellsField origin OfName) (gateway_form origin number).spells (FieldReason origin OfName) (gateway_form origin number).reason room end tokens old r left new (λ t octets sp. inl (three, sp)) name (λ t e why. inl (three, why)) h
+      as_other (BeginsField origin OfName) (gateway_form origin number).begins (SpellsField origin OfName) (gateway_form origin number).spells (FieldReason origin OfName) (gateway_form origin number).reason room end tokens old r left new
+      (λ t octets sp. inl (three, sp)) (λ t octets sp. inl (three, sp)) name (λ t e why. inl (three, why)) h
     where
       name : (t : TokenSeen) (octets : List ℕ) → (gateway_form origin number).spells t octets → SpellsField origin OfName t octets
       name t octets (inl sp) = sp.1
       name t octets (inr sp) = absurd (no_name number sp.1.0 three sp.1.1.1)
 
-  pub address_taken : number ≢ 3 → ParsesTokenAs room (SpellsAddress number) AddressReason end tokens old r left new
-      → ParsesTokenAs room (gateway_form origin number).spells (gateway_form origin number).reason end tokens old r left new
+  pub address_taken : number ≢ 3 → ParsesTokenAs room (SpellsAddress number) (SpellsAddress number) AddressReason end tokens old r left new
+      → ParsesTokenAs room (gateway_form origin number).begins (gateway_form origin number).spells (gateway_form origin number).reason end tokens old r left new
   address_taken other h =
-      as_other (SpellsAddress number) (gateway_form origin number).spells AddressReason (gateway_form origin number).reason room end tokens old r left new (λ t octets sp. inr sp) address (λ t e why. inr (other, why)) h
+      as_other (SpellsAddress number) (gateway_form origin number).begins (SpellsAddress number) (gateway_form origin number).spells AddressReason (gateway_form origin number).reason room end tokens old r left new
+      (λ t octets sp. inr sp) (λ t octets sp. inr sp) address (λ t e why. inr (other, why)) h
     where
       address : (t : TokenSeen) (octets : List ℕ) → (gateway_form origin number).spells t octets → SpellsAddress number t octets
       address t octets (inl sp) = absurd (other sp.0)
@@ -172,22 +200,23 @@ octet_taken t old new g =
     first_behind (o ∷ os) number = first_behind os number
 
 module _ (room : Room) (algorithm end : ℕ) (tokens : List TokenSeen) (old : List ℕ) where
-  key_refused : (f : RestForm) (r : RecordError) (left : List TokenSeen) (new : List ℕ) → ((octets : List ℕ) → (key_form algorithm).spells tokens octets → f.spells tokens octets) → (f.reason tokens left r.kind → (key_form algorithm).reason tokens left r.kind)
+  key_refused : (f : RestForm) (r : RecordError) (left : List TokenSeen) (new : List ℕ) → ((octets : List ℕ) → (key_form algorithm).spells tokens octets → f.spells tokens octets)
+      → (f.exceeds room tokens left old → (key_form algorithm).exceeds room tokens left old) → (f.reason tokens left r.kind → (key_form algorithm).reason tokens left r.kind)
       → RefusesRest room f end tokens old r left new → RefusesRest room (key_form algorithm) end tokens old r left new
-  key_refused f r left new from why h = record { at = h.at; why = by h.why; extends = h.extends }
+  key_refused f r left new from exceeds why h = record { at = h.at; why = by h.why; extends = h.extends }
     where
       by : RefusesAs room f tokens old left r.kind → RefusesAs room (key_form algorithm) tokens old left r.kind
-      by (inl short) = inl (short.0, λ octets sp. short.1 octets (from octets sp))
+      by (inl short) = inl (short.0, exceeds short.1)
       by (inr bad) = inr (why bad.0, λ octets sp. bad.1 octets (from octets sp))
 
   -- a key that may be omitted, and one that may not
   pub any_key : algorithm ≡ 0 → (r : Result (Unit {0}) RecordError) (left : List TokenSeen) (new : List ℕ) → ParsesTail room (digits_form InBase64) end tokens old r left new → ParsesTail room (key_form algorithm) end tokens old r left new
   any_key is (Ok x) left new h = (h.0, (h.1.0, (h.1.1, λ none. is), h.1.2))
-  any_key is (Err r) left new h = key_refused (digits_form InBase64) r left new (λ octets sp. sp.0) inl h
+  any_key is (Err r) left new h = key_refused (digits_form InBase64) r left new (λ octets sp. sp.0) (λ h. h) inl h
 
   pub own_key : algorithm ≢ 0 → (r : Result (Unit {0}) RecordError) (left : List TokenSeen) (new : List ℕ) → ParsesTail room (some_form (digits_form InBase64)) end tokens old r left new → ParsesTail room (key_form algorithm) end tokens old r left new
   own_key other (Ok x) left new h = (h.0, (h.1.0, (h.1.1.0, λ none. absurd (h.1.1.1 none)), h.1.2))
-  own_key other (Err r) left new h = key_refused (some_form (digits_form InBase64)) r left new (λ octets sp. (sp.0, λ none. other (sp.1 none))) why h
+  own_key other (Err r) left new h = key_refused (some_form (digits_form InBase64)) r left new (λ octets sp. (sp.0, λ none. other (sp.1 none))) (λ h. h) why h
     where
       why : (some_form (digits_form InBase64)).reason tokens left r.kind → (key_form algorithm).reason tokens left r.kind
       why (inl bad) = inl bad

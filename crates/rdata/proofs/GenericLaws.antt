@@ -8,7 +8,7 @@ use Rattle.rdata_tokens.specs.declared.kind.DigitsKind.TheVariants.{Hex}
 use Rattle.rdata_fields.specs.Source.{next_place}
 use Rattle.dns_lexer.specs.EntryTokens.{TokenSeen}
 use Rattle.rdata.specs.Digits.{SpellsJoined, digits_form, printed_digits}
-use Rattle.rdata.specs.Generic.{BeginsGeneric, IsCount, SpellsGeneric, ParsesCount, WhyNoCount, generic_form}
+use Rattle.rdata.specs.Generic.{BeginsGeneric, IsCount, ExceedsGeneric, SpellsGeneric, ParsesCount, WhyNoCount, generic_form}
 use Rattle.rdata.specs.Rests.{RefusesRest}
 use Rattle.rdata_fields.specs.RecordErrors.{error_at}
 use Rattle.rdata_fields.specs.declared.record_error.RecordError.{RecordError}
@@ -71,8 +71,8 @@ digits_refused room begun end count (m ∷ ts) first left final old new r mark i
     record {
       at = moved r h.at (ap (next_place final) ends);
       why = elim h.why [
-        | inl full ↦ inl (full.0, λ v sp. full.1 v (digits v sp))
-        | inr reason ↦ inr (inr (counted.0, left, all, inl reason.0), λ v sp. reason.1 v (digits v sp))
+        | inl full ↦ inl (full.0, subst (λ z. ExceedsGeneric room (m ∷ z) final old) (sym all) (mark, (count, counted.2), full.1))
+        | inr reason ↦ inr (inr (counted.0, left, all, inl ((count, counted.2), reason.0)), λ v sp. reason.1 v (digits v sp))
       ];
       extends = h.extends;
     }

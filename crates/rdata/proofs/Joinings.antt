@@ -1,23 +1,25 @@
 -- Words of digits after one another.
-use Rattle.std.proofs.Common.{ℕ, false, true≢false, ◌≡◌, ◌≢◌, ◌<◌, ◌+◌, List, [], ◌∷◌, ◌++◌, length, refl, sym, ap, subst, ◌∙◌, inl, inr, append-nil}
+use Rattle.std.proofs.Common.{ℕ, false, true≢false, ◌≡◌, ◌≢◌, ◌<◌, ◌+◌, List, [], ◌∷◌, ◌++◌, length, refl, sym, ap, subst, ◌∙◌, inl, inr, arith, append-nil}
 use Rattle.std.proofs.lemmas.List.{append_assoc}
 use Rattle.dns_octets.specs.Room.{Room}
-use Rattle.dns_octets.specs.Appending.{Extends, Gains}
+use Rattle.dns_octets.specs.Appending.{Extends, Gains, ExceedsRoom}
 use Rattle.rdata_tokens.specs.Reading.{DigitsState, HasRead, AcceptsPiece, RefusesPiece}
-use Rattle.rdata_tokens.specs.Spelled.{SpellsDigits, base_of, unfinished}
+use Rattle.rdata_tokens.specs.Spelled.{SpellsDigits, BeginsWithDigits, base_of, illegal, unfinished}
 use Rattle.rdata_tokens.specs.Tokens.{DigitsContinue, RefusesToken}
 use Rattle.rdata_tokens.specs.declared.kind.DigitsKind.{DigitsKind}
+use Rattle.rdata_tokens.specs.declared.kind.DigitsKind.TheVariants.{Hex, Base64}
 use Rattle.rdata_fields.specs.RecordErrors.{error_at}
 use Rattle.rdata_fields.specs.declared.record_error.RecordError.{RecordError}
 use Rattle.rdata_values.specs.declared.error.ErrorKind.{ErrorKind}
-use Rattle.rdata_values.specs.declared.error.ErrorKind.TheVariants.{ShortBuf}
+use Rattle.rdata_values.specs.declared.error.ErrorKind.TheVariants.{ShortBuf, TrailingBase64}
 use Rattle.rdata_tokens.proofs.Pieces.{takes_none, takes_on, reads_on, reads_goes_on, refuses_behind, is_short}
 use Rattle.rdata_tokens.proofs.Spelling.{known, spells_once}
 use Rattle.rdata_tokens.proofs.Together.{only_room}
+use Rattle.rdata_tokens.proofs.TakenDigit.{least_begun}
 use Rattle.rdata_tokens.proofs.TokenLemmas.{token_refused}
 use Rattle.rdata_fields.specs.Source.{next_place}
 use Rattle.dns_lexer.specs.EntryTokens.{TokenSeen}
-use Rattle.rdata.specs.Digits.{joined_words, AreUnquoted, SpellsJoined, IsDigitsFault, JoinedReason, digits_form}
+use Rattle.rdata.specs.Digits.{joined_words, AreUnquoted, SpellsJoined, ExceedsDigits, IsDigitsFault, JoinedReason, digits_form}
 use Rattle.rdata.specs.Pieces.{PushesDigits, RefusesPush}
 use Rattle.rdata.specs.Rests.{RefusesAs, RefusesRest}
 use Rattle.rdata_fields.specs.RecordErrors.{IsErrorAt}
@@ -61,6 +63,14 @@ more_joined first s pushed tokens left rest old middle new h k = let t = k.0 in 
   octets = p.octets ∙ ap (λ o. o ++ p.gained) h.octets ∙ append_assoc old h.gained p.gained;
 }
 
+illegal_goes_on : (kind : DigitsKind) → illegal kind ≡ unfinished kind → ⊥
+illegal_goes_on Hex is = cc is
+illegal_goes_on Base64 is = cc is
+
+trailing_goes_on : (kind : DigitsKind) → TrailingBase64 ≡ unfinished kind → ⊥
+trailing_goes_on Hex is = cc is
+trailing_goes_on Base64 is = cc is
+
 module _ (kind : DigitsKind) (first s : DigitsState) (same : first.kind ≡ kind) (fresh : HasRead first [] []) (tokens left : List TokenSeen) (old new : List ℕ) (h : HasJoined first s tokens old left new) where
   kept : s.kind ≡ kind
   kept = h.pieces.kept ∙ same
@@ -71,6 +81,11 @@ module _ (kind : DigitsKind) (first s : DigitsState) (same : first.kind ≡ kind
   all_before : left ≡ [] → tokens ≡ h.before
   all_before none = h.whole ∙ ap (λ l. h.before ++ l) none ∙ append-nil h.before
 
+  goes : DigitsContinue kind (joined_words h.before)
+  goes =
+      let on = reads_goes_on s (joined_words h.before) h.gained read in
+      subst (λ k. DigitsContinue k (joined_words h.before)) kept (on.0, h.gained ++ on.1, on.2)
+
   pub all_joined : left ≡ [] → ((text octets : List ℕ) → HasRead s text octets → SpellsDigits (base_of s.kind) text octets) → Gains (SpellsJoined (base_of kind) tokens) old new
   all_joined none spelled =
       let digits : SpellsDigits (base_of kind) (joined_words h.before) h.gained = subst (λ k. SpellsDigits (base_of k) (joined_words h.before) h.gained) kept (spelled (joined_words h.before) h.gained read) in
@@ -80,23 +95,29 @@ module _ (kind : DigitsKind) (first s : DigitsState) (same : first.kind ≡ kind
       → ((text octets : List ℕ) → HasRead s text octets → (v : List ℕ) → SpellsDigits (base_of s.kind) text v → ⊥)
       → RefusesRest room (digits_form kind) begun tokens old (error_at at e) left new
   ends_within room begun end at e ends none place is never =
-      let on = reads_goes_on s (joined_words h.before) h.gained read in
-      let goes : DigitsContinue kind (joined_words h.before) = subst (λ k. DigitsContinue k (joined_words h.before)) kept (on.0, h.gained ++ on.1, on.2) in
       let unspelled : (v : List ℕ) → SpellsDigits (base_of kind) (joined_words h.before) v → ⊥ =
       subst (λ (k : DigitsKind). (v : List ℕ) → SpellsDigits (base_of k) (joined_words h.before) v → ⊥) kept (never (joined_words h.before) h.gained read) in
       record {
         at = placed e (place ∙ ap (next_place left) ends);
         why = inr (
-          (h.before, h.whole, (h.unquoted, subst (λ l. JoinedReason kind h.before l e) (sym none) (inl (is ∙ ap unfinished kept, goes)))),
+          (h.before, h.whole, (h.unquoted, goes, subst (λ l. JoinedReason kind h.before l e) (sym none) (is ∙ ap unfinished kept))),
           λ octets sp. unspelled octets (subst (λ ts. SpellsJoined (base_of kind) ts octets) (all_before none) sp).1,
         );
         extends = (h.gained, h.octets);
       }
 
-  fault_of : (room : Room) (text : List ℕ) (d : ErrorKind) → d ≢ ShortBuf → RefusesToken kind room text old d → IsDigitsFault kind text d
-  fault_of room text d other r = elim r.why [
+  never_ends : (room : Room) (text : List ℕ) (d : ErrorKind) → d ≢ ShortBuf → RefusesPiece room first text old d → d ≡ unfinished kind → ⊥
+  never_ends room text d other r ends = elim r.why [
+    | inl short ↦ other short
+    | inr (inl bad) ↦ illegal_goes_on kind (ap illegal (sym same) ∙ sym bad.0 ∙ ends)
+    | inr (inr bad) ↦ trailing_goes_on kind (sym bad.0 ∙ ends)
+  ]
+
+  fault_of : (room : Room) (text : List ℕ) (d : ErrorKind) → d ≢ ShortBuf → RefusesPiece room first text old d → RefusesToken kind room text old d → IsDigitsFault kind text d
+  fault_of room text d other piece r = elim r.why [
     | inl short ↦ absurd (other short)
-    | inr f ↦ f
+    | inr (inl ends) ↦ absurd (never_ends room text d other piece ends.0)
+    | inr (inr f) ↦ f
   ]
 
   refused_digits : (room : Room) (t : TokenSeen) (ts : List TokenSeen) (d : ErrorKind) → left ≡ t ∷ ts → t.is_quoted ≡ false → RefusesPiece room s t.text new d
@@ -112,9 +133,12 @@ module _ (kind : DigitsKind) (first s : DigitsState) (same : first.kind ≡ kind
       only_room room first [] text (joined_words ts) octets [] old d digits fresh behind
       ) in
       elim (is_short d) [
-        | inl short ↦ inl (short, λ octets sp. (let lacks = (only octets sp).1 in subst (λ (o : List ℕ). room.fits < length old + length o) (sym lacks.1) lacks.2))
+        | inl short ↦ inl (
+          short,
+          (h.before, h.whole ∙ ap (λ l. h.before ++ l) is, unquoted_more h.before t h.unquoted plain, subst (λ z. ExceedsRoom room (BeginsWithDigits (base_of kind) z) old) (sym (joined_last h.before t)) (token.exceeds short)),
+        )
         | inr other ↦ inr (
-          (h.before, h.whole ∙ ap (λ l. h.before ++ l) is, (h.unquoted, inr (plain, subst (λ z. IsDigitsFault kind z d) (sym (joined_last h.before t)) (fault_of room text d other token)))),
+          (h.before, h.whole ∙ ap (λ l. h.before ++ l) is, (h.unquoted, goes, inr (plain, subst (λ z. IsDigitsFault kind z d) (sym (joined_last h.before t)) (fault_of room text d other behind token)))),
           λ octets sp. other (only octets sp).0,
         )
       ]
@@ -123,7 +147,7 @@ module _ (kind : DigitsKind) (first s : DigitsState) (same : first.kind ≡ kind
   refused_why room [] e is some r = absurd (some refl)
   refused_why room (t ∷ ts) e is some (inl k) =
       inr (
-        (h.before, h.whole ∙ ap (λ l. h.before ++ l) is, (h.unquoted, inl k)),
+        (h.before, h.whole ∙ ap (λ l. h.before ++ l) is, (h.unquoted, goes, inl k)),
         λ octets sp. (
             let plain = unquoted_at h.before ts t (subst AreUnquoted (h.whole ∙ ap (λ l. h.before ++ l) is) sp.0) in
             true≢false (sym k.1 ∙ plain)
@@ -145,3 +169,17 @@ module _ (kind : DigitsKind) (first s : DigitsState) (same : first.kind ≡ kind
 
 pub joined_once : (kind : DigitsKind) (tokens : List TokenSeen) (a b : List ℕ) → SpellsJoined (base_of kind) tokens a → SpellsJoined (base_of kind) tokens b → a ≡ b
 joined_once kind tokens a b h k = spells_once (base_of kind) (known kind) (joined_words tokens) a b h.1 k.1
+
+-- the digits of some words exceed the room, and those of all spell at least as many octets
+pub digits_exceeded : (kind : DigitsKind) (room : Room) (tokens left : List TokenSeen) (old octets : List ℕ) → ExceedsDigits kind room tokens left old → SpellsJoined (base_of kind) tokens octets
+    → room.fits < length old + length octets
+digits_exceeded kind room tokens [] old octets h sp = absurd h
+digits_exceeded kind room tokens (t ∷ ts) old octets h sp =
+    let text : List ℕ = joined_words (h.0 ++ t ∷ []) in
+    let fresh : DigitsState = record { kind = kind; begun = []; ended = false } in
+    let words : h.0 ++ t ∷ ts ≡ (h.0 ++ t ∷ []) ++ ts = sym (append_assoc h.0 (t ∷ []) ts) in
+    let all : joined_words tokens ≡ text ++ joined_words ts = ap joined_words (h.1 ∙ words) ∙ joined_parts (h.0 ++ t ∷ []) ts in
+    let digits : SpellsDigits (base_of kind) (text ++ joined_words ts) octets = subst (λ z. SpellsDigits (base_of kind) z octets) all sp.1 in
+    let begun = h.3.1 in
+    let few = least_begun fresh text h.3.0 octets (refl, begun.0, begun.1, begun.2, begun.3, begun.4) (refl, (joined_words ts, digits)) in
+    omega (arith, h.3.2, few)

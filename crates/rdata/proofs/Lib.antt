@@ -7,6 +7,7 @@ pub mod GenericLaws
 pub mod ItemLaws
 pub mod Joinings
 pub mod LocationLemmas
+pub mod MaybeStringLaws
 pub mod Namings
 pub mod ParamsRestLaws
 pub mod PlacesBack

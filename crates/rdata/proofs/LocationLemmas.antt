@@ -24,7 +24,7 @@ location_refused room end tokens left old new r same h = record {
   at = h.0;
   why = elim h.1 [
     | inl none ↦ inr ((none.0, none.1), none.2)
-    | inr lacks ↦ inl (lacks.0, lacks.3)
+    | inr lacks ↦ inl (lacks.0, (lacks.1, lacks.2))
   ];
   extends = ([], same ∙ sym (append-nil old));
 }

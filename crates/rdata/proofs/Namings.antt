@@ -82,13 +82,7 @@ pub types_lack : (room : Room) (set : List ℕ) (tokens left : List TokenSeen) (
     → LacksRoom room (λ octets. octets ≡ bitmap set) old → Extends old new → RefusesRest room types_form begun tokens old (error_at at ShortBuf) left new
 types_lack room set tokens left old new begun end at h none ends place lacks extends = record {
   at = placed ShortBuf (place ∙ ap (next_place left) ends);
-  why = inl (
-    refl,
-    λ octets sp. (
-        let same = names_once tokens h.types sp.0 (all_named set tokens left h none) sp.1 in
-        lacks octets (sp.2 ∙ ap bitmap (sym same) ∙ sym (same_bitmap set h.types h.same))
-        ),
-  );
+  why = inl (refl, (none, (bitmap set, (h.types, all_named set tokens left h none, same_bitmap set h.types h.same), lacks (bitmap set) refl)));
   extends = extends;
 }
 
@@ -97,7 +91,7 @@ type_refused : (room : Room) (set : List ℕ) (tokens left rest : List TokenSeen
 type_refused room set tokens left rest old begun end r h ends k = let t = k.0 in let ts = k.1 in let is : left ≡ t ∷ ts = k.2 in let rest_is : rest ≡ t ∷ ts = k.3 in record {
   at = moved r k.4 (ap (λ l. next_place l begun) (sym rest_is));
   why = subst (λ l. RefusesAs room types_form tokens old l r.kind) (sym rest_is) (inr (
-    (h.before, h.whole ∙ ap (λ l. h.before ++ l) is, k.5),
+    (h.before, h.whole ∙ ap (λ l. h.before ++ l) is, ((h.types, h.named), k.5)),
     λ octets sp. (
         let at = names_at h.before ts t sp.0 (subst (λ z. NameTypes z sp.0) (h.whole ∙ ap (λ l. h.before ++ l) is) sp.1) in
         never_both t r.kind at.0 k.5 at.1

@@ -1,5 +1,5 @@
 -- Items of address prefix lists, as words and as octets.
-use Rattle.std.proofs.Common.{ℕ, false, ◌≡◌, ◌≢◌, ◌-◌, List, [], ◌∷◌, ◌++◌, length, take, drop, refl, sym, ap, subst, ◌∙◌, inl, inr, arith, take-append-drop, length-take-le}
+use Rattle.std.proofs.Common.{ℕ, false, ◌≡◌, ◌≢◌, ◌<◌, ◌+◌, ◌-◌, List, [], ◌∷◌, ◌++◌, length, take, drop, refl, sym, ap, subst, ◌∙◌, inl, inr, arith, take-append-drop, length-take-le}
 use Rattle.std.proofs.Math.Seq.{drop-append_seam}
 use Rattle.std.specs.List.{concat}
 use Rattle.rdata_tokens.proofs.Pieces.{rest_of}
@@ -14,7 +14,7 @@ use Rattle.rdata_tails.proofs.PrefixLaws.{prefixes_are_read}
 use Rattle.dns_lexer.specs.EntryTokens.{TokenSeen}
 use Rattle.rdata.specs.PrefixLists.{IsPrefixItem, prefix_form, prefixes_form}
 use Rattle.rdata.specs.TokenForms.{AreParts, RefusesTokenAs}
-use Rattle.rdata.proofs.TokenRests.{SpelledOnce, each_once}
+use Rattle.rdata.proofs.TokenRests.{SpelledOnce, whole_within, each_once, each_exceeded}
 
 pub prefix_once : SpelledOnce prefix_form.spells
 prefix_once t a b h k =
@@ -26,10 +26,13 @@ prefix_once t a b h k =
 pub prefixes_once : (tokens : List TokenSeen) (a b : List ℕ) → prefixes_form.spells tokens a → prefixes_form.spells tokens b → a ≡ b
 prefixes_once tokens a b h k = each_once prefix_form prefix_once tokens a b h k
 
+pub prefixes_exceeded : (room : Room) (tokens left : List TokenSeen) (old octets : List ℕ) → prefixes_form.exceeds room tokens left old → prefixes_form.spells tokens octets → room.fits < length old + length octets
+prefixes_exceeded room tokens left old octets h sp = each_exceeded prefix_form prefix_once (whole_within prefix_form.spells prefix_once) room tokens left old octets h sp
+
 pub item_refused : (room : Room) (t : TokenSeen) (ts : List TokenSeen) (old : List ℕ) (e : ErrorKind) → t.is_quoted ≡ false → WhyNot room (SpellsItem t.text) ExpectedPrefix old e
-    → RefusesTokenAs room prefix_form.spells prefix_form.reason (t ∷ ts) old e
+    → RefusesTokenAs room prefix_form.begins prefix_form.spells prefix_form.reason (t ∷ ts) old e
 item_refused room t ts old e plain (inl bad) = inr (inr (bad.0, plain), λ octets sp. bad.1 octets sp.1)
-item_refused room t ts old e plain (inr short) = inl (short.0, λ octets sp. short.1 octets sp.1)
+item_refused room t ts old e plain (inr short) = inl (short.0, (short.1.0, (plain, short.1.1), short.1.2))
 
 -- ---- items in octets
 

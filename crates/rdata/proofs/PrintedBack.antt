@@ -13,7 +13,7 @@ use Rattle.rdata_tokens.proofs.Spelling.{printed_spells}
 use Rattle.rdata_fields.specs.Fields.{field_form}
 use Rattle.rdata_fields.specs.Parsing.{SpellsField, SpellsFields, SpellsEach}
 use Rattle.rdata_fields.specs.declared.field.Field.{Field}
-use Rattle.rdata_fields.specs.declared.field.Field.TheVariants.{Number8, Number16, Number32, Interval, Ipv4, Ipv6, RecordType, SigType, Algorithm, CertificateType, Eui48, Eui64, Time, Locator, String, PsdnAddress, Tag, Salt, Hash, Name}
+use Rattle.rdata_fields.specs.declared.field.Field.TheVariants.{Number8, Number16, Number32, Interval, Ipv4, Ipv6, RecordType, SigType, Algorithm, CertificateType, SyncScheme, Eui48, Eui64, Time, Locator, String, PsdnAddress, Tag, Salt, Hash, Name}
 use Rattle.rdata_fields.proofs.FormLaws.{fields_are_forms}
 use Rattle.rdata_values.specs.Types.{portable_text, SpellsType}
 use Rattle.rdata_values.proofs.CodeLaws.{portable_types_are_kind}
@@ -32,9 +32,10 @@ use Rattle.rdata.specs.Texts.{AreText, text_form}
 use Rattle.rdata.specs.TypeLists.{NameTypes, types_form}
 use Rattle.rdata.specs.Wire.{BeginsWithFields}
 use Rattle.rdata.specs.declared.rest.Rest.{Rest}
-use Rattle.rdata.specs.declared.rest.Rest.TheVariants.{Nothing, Strings, Hex, Base64, Types, SomeTypes, Text, QuotedText, Location as OfLocation, Prefixes, GatewayKey, Params}
+use Rattle.rdata.specs.declared.rest.Rest.TheVariants.{Nothing, Strings, MaybeString, Hex, Base64, Types, SomeTypes, Text, QuotedText, Location as OfLocation, Prefixes, GatewayKey, Params}
 use Rattle.rdata.specs.declared.shape.Shape.{Shape}
 use Rattle.rdata.proofs.LocationLemmas.{location_back}
+use Rattle.rdata.proofs.MaybeStringLaws.{maybe_string_back}
 use Rattle.rdata.proofs.ParamsRestLaws.{params_back}
 use Rattle.rdata.proofs.PlacesBack.{prefixes_back, gateway_key_back}
 use Rattle.rdata.proofs.PrintedStrings.{front_string, quoted_token}
@@ -121,6 +122,7 @@ module _ (origin : Option (List (List ℕ))) (known : IsOrigin origin) where
   field_back SigType form is = (fields_are_forms origin known SigType).back form is
   field_back Algorithm form is = (fields_are_forms origin known Algorithm).back form is
   field_back CertificateType form is = (fields_are_forms origin known CertificateType).back form is
+  field_back SyncScheme form is = (fields_are_forms origin known SyncScheme).back form is
   field_back Eui48 form is = (fields_are_forms origin known Eui48).back form is
   field_back Eui64 form is = (fields_are_forms origin known Eui64).back form is
   field_back Time form is = (fields_are_forms origin known Time).back form is
@@ -140,6 +142,7 @@ module _ (origin : Option (List (List ℕ))) (known : IsOrigin origin) where
       let again : strings_in_octets octets ≡ strings = ap strings_in_octets is.0.2 ∙ strings_again strings in
       let each = each_back origin strings tokens is.0.1 (subst (λ l. ArePrinted (map quoted_token l) tokens) again p) in
       (subst (SpellsEach origin String tokens) (sym is.0.2) each, is.1)
+  rest_back MaybeString octets tokens is p = maybe_string_back octets tokens is p
   rest_back Hex octets tokens is p = (digits_back InHex octets tokens is.0 p, is.1)
   rest_back Base64 octets tokens is p = (digits_back InBase64 octets tokens is.0 p, is.1)
   rest_back Types octets tokens is p = types_back octets tokens is p

@@ -11,7 +11,7 @@ use Rattle.rdata_tokens.specs.declared.kind.DigitsKind.{DigitsKind}
 use Rattle.rdata_tokens.specs.declared.kind.DigitsKind.TheVariants.{Hex as InHex, Base64 as InBase64}
 use Rattle.rdata_fields.specs.Fields.{field_form}
 use Rattle.rdata_fields.specs.declared.field.Field.{Field}
-use Rattle.rdata_fields.specs.declared.field.Field.TheVariants.{Number8, Number16, Number32, Interval, Ipv4, Ipv6, RecordType, SigType, Algorithm, CertificateType, Eui48, Eui64, Time, Locator, String, PsdnAddress, Tag, Salt, Hash, Name}
+use Rattle.rdata_fields.specs.declared.field.Field.TheVariants.{Number8, Number16, Number32, Interval, Ipv4, Ipv6, RecordType, SigType, Algorithm, CertificateType, SyncScheme, Eui48, Eui64, Time, Locator, String, PsdnAddress, Tag, Salt, Hash, Name}
 use Rattle.rdata_fields.proofs.FormLaws.{psdn_address_is_string}
 use Rattle.rdata_values.specs.Types.{portable_text}
 use Rattle.rdata_values.specs.Bitmap.{types_of}
@@ -37,13 +37,14 @@ use Rattle.rdata.specs.Printing.{field_size, printed_field, printed_parts, print
 use Rattle.rdata.specs.RestKinds.{rest_form, strings_in_octets, AreShortStrings}
 use Rattle.rdata.specs.Wire.{BeginsWithFields}
 use Rattle.rdata.specs.declared.rest.Rest.{Rest}
-use Rattle.rdata.specs.declared.rest.Rest.TheVariants.{Nothing, Strings, Hex, Base64, Types, SomeTypes, Text, QuotedText, Location as OfLocation, Prefixes, GatewayKey, Params}
+use Rattle.rdata.specs.declared.rest.Rest.TheVariants.{Nothing, Strings, MaybeString, Hex, Base64, Types, SomeTypes, Text, QuotedText, Location as OfLocation, Prefixes, GatewayKey, Params}
 use Rattle.rdata.specs.declared.shape.Shape.{Shape}
 use Rattle.rdata.proofs.PrintedBack.{strings_again}
 use Rattle.rdata.proofs.PrintedStrings.{quoted_token}
 use Rattle.rdata.proofs.Sizes.{field_sized}
 use Rattle.rdata.proofs.Textless.{HasNoText, generic_printed, text_or_none, text_printed}
 use Rattle.rdata.specs.Generic.{generic_form}
+use Rattle.rdata.specs.MaybeStrings.{IsMaybeString, printed_maybe_string}
 
 quote_symbol : (o : ℕ) → o < 256 → is_quote_symbol (symbol_of is_quoted_escape o) ≡ true
 quote_symbol o small = by_tests (is_printable o) (is_quoted_escape o) refl refl
@@ -79,6 +80,7 @@ field_well RecordType form is quoted = absurd (true≢false (sym quoted))
 field_well SigType form is quoted = absurd (true≢false (sym quoted))
 field_well Algorithm form is quoted = absurd (true≢false (sym quoted))
 field_well CertificateType form is quoted = absurd (true≢false (sym quoted))
+field_well SyncScheme form is quoted = absurd (true≢false (sym quoted))
 field_well Eui48 form is quoted = absurd (true≢false (sym quoted))
 field_well Eui64 form is quoted = absurd (true≢false (sym quoted))
 field_well Time form is quoted = absurd (true≢false (sym quoted))
@@ -93,6 +95,10 @@ field_well Name form is quoted = absurd (true≢false (sym quoted))
 strings_well : (strings : List (List ℕ)) → AreShortStrings strings → AllByRecursion IsQuotedWell (map quoted_token strings)
 strings_well [] short = tt
 strings_well (s ∷ ss) short = ((λ quoted. quote_of s short.0.0), strings_well ss short.1)
+
+maybe_string_well : (octets : List ℕ) → IsMaybeString octets → AllByRecursion IsQuotedWell (printed_maybe_string octets)
+maybe_string_well octets (inl none) = subst (λ o. AllByRecursion IsQuotedWell (printed_maybe_string o)) (sym none) tt
+maybe_string_well octets (inr w) = subst (λ o. AllByRecursion IsQuotedWell (printed_maybe_string o)) (sym w.whole) ((λ quoted. quote_of w.octets w.values), tt)
 
 digits_well : (kind : DigitsKind) (octets : List ℕ) → AllByRecursion IsQuotedWell (printed_digits (base_of kind) octets)
 digits_well kind [] = tt
@@ -120,6 +126,7 @@ rest_well Nothing octets is = tt
 rest_well Strings octets is =
     let again : strings_in_octets octets ≡ is.0.0 = ap strings_in_octets is.0.2 ∙ strings_again is.0.0 in
     subst (λ l. AllByRecursion IsQuotedWell (map quoted_token l)) (sym again) (strings_well is.0.0 is.0.1)
+rest_well MaybeString octets is = maybe_string_well octets is
 rest_well Hex octets is = digits_well InHex octets
 rest_well Base64 octets is = digits_well InBase64 octets
 rest_well Types octets is = types_well (types_of octets)

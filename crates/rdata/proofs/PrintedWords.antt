@@ -16,13 +16,14 @@ use Rattle.rdata_tokens.specs.Spelled.{base_of}
 use Rattle.rdata_fields.specs.Fields.{field_form}
 use Rattle.rdata_fields.specs.Words.{AreOctetsOf}
 use Rattle.rdata_fields.specs.declared.field.Field.{Field}
-use Rattle.rdata_fields.specs.declared.field.Field.TheVariants.{Number8, Number16, Number32, Interval, Ipv4, Ipv6, RecordType, SigType, Algorithm, CertificateType, Eui48, Eui64, Time, Locator, String, PsdnAddress, Tag, Salt, Hash, Name}
+use Rattle.rdata_fields.specs.declared.field.Field.TheVariants.{Number8, Number16, Number32, Interval, Ipv4, Ipv6, RecordType, SigType, Algorithm, CertificateType, SyncScheme, Eui48, Eui64, Time, Locator, String, PsdnAddress, Tag, Salt, Hash, Name}
 use Rattle.rdata_fields.proofs.FormLaws.{fields_are_forms}
 use Rattle.rdata_values.specs.Algorithms.{certificate_rows}
 use Rattle.dns_codec.specs.Base.{base32hex, encoded}
 use Rattle.rdata_values.specs.Eui.{dashed_text}
 use Rattle.rdata_values.specs.Registry.{Row, code_text}
 use Rattle.rdata_values.specs.Salt.{salt_text}
+use Rattle.rdata_values.specs.Schemes.{scheme_rows}
 use Rattle.rdata_values.specs.Time.{IsTime}
 use Rattle.rdata_values.specs.Types.{type_rows, type_prefix, type_text, is_portable, portable_text, sig_type_text}
 use Rattle.rdata_values.specs.Bitmap.{types_of}
@@ -45,6 +46,7 @@ use Rattle.dns_lexer.specs.Token.{IsToken, IsWord}
 use Rattle.rdata.specs.Data.{IsDataOf, IsTextData}
 use Rattle.rdata.specs.Digits.{printed_digits}
 use Rattle.rdata.specs.GatewayKeys.{plain_word, octet_form, gateway_type_form, gateway_form, gateway_key_form, key_form}
+use Rattle.rdata.specs.MaybeStrings.{printed_maybe_string}
 use Rattle.rdata.specs.PrefixLists.{prefix_form, prefixes_form}
 use Rattle.rdata.specs.PrintLaws.{IsQuotedWell, IsWordWell}
 use Rattle.rdata.specs.Printing.{field_size, printed_field, printed_parts, printed_data, token_bytes}
@@ -54,7 +56,7 @@ use Rattle.rdata.specs.TokenForms.{TokenForm, IsThen, printed_each, then_form}
 use Rattle.rdata.specs.TypeLists.{types_form}
 use Rattle.rdata.specs.Wire.{BeginsWithFields}
 use Rattle.rdata.specs.declared.rest.Rest.{Rest}
-use Rattle.rdata.specs.declared.rest.Rest.TheVariants.{Nothing as NoRest, Strings, Hex, Base64, Types, SomeTypes, Text, QuotedText, Location as OfLocation, Prefixes, GatewayKey, Params}
+use Rattle.rdata.specs.declared.rest.Rest.TheVariants.{Nothing as NoRest, Strings, MaybeString, Hex, Base64, Types, SomeTypes, Text, QuotedText, Location as OfLocation, Prefixes, GatewayKey, Params}
 use Rattle.rdata.specs.declared.shape.Shape.{Shape}
 use Rattle.rdata.proofs.GatewayLaws.{behind_algorithm, behind_type}
 use Rattle.rdata.proofs.LocationLemmas.{location_at_is}
@@ -79,6 +81,9 @@ type_names = refl
 
 certificate_names : list_all has_word certificate_rows ≡ true
 certificate_names = refl
+
+scheme_names : list_all has_word scheme_rows ≡ true
+scheme_names = refl
 
 module _ (prefix : List ℕ) (plain : ArePlain prefix) (code : ℕ) (small : code < 2 ^ 64) where
   numbered_word : IsPlainWord (prefix ++ decimal code)
@@ -154,6 +159,7 @@ field_word RecordType form is = a_word _ (type_word (from_be_bytes w16 form) (pa
 field_word SigType form is = a_word _ (sig_type_word (from_be_bytes w16 form) (pair_small form is))
 field_word Algorithm form is = a_word _ (numeral_word 10 _ (omega arith) ((fields_are_forms None tt Number8).back form is).1.2.0.0)
 field_word CertificateType form is = a_word _ (code_word [] refl (from_be_bytes w16 form) (pair_small form is) certificate_rows certificate_names)
+field_word SyncScheme form is = a_word _ (code_word [] refl (slice_index form 0) (octet_small form is) scheme_rows scheme_names)
 field_word Eui48 form is = a_word _ (eui_word form (omega (arith, is.0)) is.1)
 field_word Eui64 form is = a_word _ (eui_word form (omega (arith, is.0)) is.1)
 field_word Time form is = let back = ((fields_are_forms None tt Time).back form is).1 in a_word _ (time_word _ _ back.2.1)
@@ -362,6 +368,10 @@ strings_words : (strings : List (List ℕ)) → AreWell (map quoted_token string
 strings_words [] = tt
 strings_words (s ∷ ss) = (not_quoted (quoted_token s) refl, strings_words ss)
 
+maybe_string_words : (octets : List ℕ) → AreWell (printed_maybe_string octets)
+maybe_string_words [] = tt
+maybe_string_words (o ∷ os) = (not_quoted (quoted_token os) refl, tt)
+
 params_words : (params : List (ℕ × List ℕ)) → AllByRecursion (λ p. IsWord (param_text p)) params → AreWell (map (λ p. plain_word (param_text p)) params)
 params_words [] words = tt
 params_words (p ∷ ps) words = (λ plain. words.0, params_words ps words.1)
@@ -369,6 +379,7 @@ params_words (p ∷ ps) words = (λ plain. words.0, params_words ps words.1)
 rest_words : (r : Rest) (octets : List ℕ) → (rest_form None r).is_wire octets → AreWell ((rest_form None r).printed octets)
 rest_words NoRest octets is = tt
 rest_words Strings octets is = strings_words (strings_in_octets octets)
+rest_words MaybeString octets is = maybe_string_words octets
 rest_words Hex octets is = digits_words InHex octets
 rest_words Base64 octets is = digits_words InBase64 octets
 rest_words Types octets is = bitmap_words octets is

@@ -18,16 +18,23 @@ use Rattle.rdata.specs.Data.{HasLength, HasWrongHash, IsWrongLength, SpellsData,
 use Rattle.rdata.specs.Rests.{RefusesAs, ParsesInParts}
 use Rattle.rdata.specs.RestKinds.{IsRestPart, rest_form}
 use Rattle.rdata.specs.Texts.{AreText}
+use Rattle.rdata.specs.TypeLists.{NameBitmap}
 use Rattle.rdata.specs.declared.rest.Rest.{Rest}
-use Rattle.rdata.specs.declared.rest.Rest.TheVariants.{Nothing, Strings, Hex, Base64, Types, SomeTypes, Text, QuotedText, Location as OfLocation, Prefixes, GatewayKey, Params}
+use Rattle.rdata.specs.declared.rest.Rest.TheVariants.{Nothing, Strings, MaybeString, Hex, Base64, Types, SomeTypes, Text, QuotedText, Location as OfLocation, Prefixes, GatewayKey, Params}
 use Rattle.rdata.specs.declared.shape.LengthRule.{LengthRule}
 use Rattle.rdata.specs.declared.shape.LengthRule.TheVariants.{Any, Digest, Hash}
 use Rattle.rdata.specs.declared.shape.Shape.{Shape}
+use Rattle.rdata_svcb.proofs.Exceeded.{params_exceeded}
 use Rattle.rdata_svcb.proofs.ParamLaws.{all_params_once}
 use Rattle.rdata_tails.proofs.LocationLaws.{locations_are_read}
-use Rattle.rdata.proofs.GatewayLaws.{gateway_key_once}
-use Rattle.rdata.proofs.PrefixListLaws.{prefixes_once}
-use Rattle.rdata.proofs.Joinings.{joined_once}
+use Rattle.rdata_tails.specs.Locations.{SpellsLocation}
+use Rattle.rdata.proofs.GatewayLaws.{gateway_key_once, gateway_key_exceeded}
+use Rattle.rdata.proofs.PrefixListLaws.{prefixes_once, prefixes_exceeded}
+use Rattle.rdata.proofs.Joinings.{joined_once, digits_exceeded}
+use Rattle.rdata.proofs.MaybeStringLaws.{maybe_string_once, maybe_string_exceeded}
+use Rattle.rdata.proofs.Strings.{strings_exceeded}
+use Rattle.rdata.proofs.TextLaws.{text_exceeded}
+use Rattle.rdata.proofs.TokenRests.{whole_exceeded}
 use Rattle.rdata.proofs.Namings.{types_once}
 
 -- what was gained, as it is cut off
@@ -43,6 +50,7 @@ text_once wants_quotes (t ∷ u ∷ ts) a b h k = absurd h
 pub rest_once : (origin : Option (List (List ℕ))) (r : Rest) (tokens : List TokenSeen) (a b : List ℕ) → (rest_form origin r).spells tokens a → (rest_form origin r).spells tokens b → a ≡ b
 rest_once origin Nothing tokens a b h k = h.1 ∙ sym k.1
 rest_once origin Strings tokens a b h k = all_once origin _ tokens a b h.0 k.0
+rest_once origin MaybeString tokens a b h k = maybe_string_once tokens a b h k
 rest_once origin Hex tokens a b h k = joined_once InHex tokens a b h.0 k.0
 rest_once origin Base64 tokens a b h k = joined_once InBase64 tokens a b h.0 k.0
 rest_once origin Types tokens a b h k = types_once tokens a b h k
@@ -53,6 +61,23 @@ rest_once origin OfLocation tokens a b h k = locations_are_read.once tokens a b 
 rest_once origin Prefixes tokens a b h k = prefixes_once tokens a b h k
 rest_once origin GatewayKey tokens a b h k = gateway_key_once origin tokens a b h k
 rest_once origin Params tokens a b h k = all_params_once tokens a b h k
+
+-- what begins to exceed the room exceeds it
+pub rest_exceeded : (origin : Option (List (List ℕ))) (r : Rest) (room : Room) (tokens left : List TokenSeen) (old octets : List ℕ) → (rest_form origin r).exceeds room tokens left old → (rest_form origin r).spells tokens octets
+    → room.fits < length old + length octets
+rest_exceeded origin Nothing room tokens left old octets h k = absurd h
+rest_exceeded origin Strings room tokens left old octets h k = strings_exceeded origin room tokens left old octets h k.0
+rest_exceeded origin MaybeString room tokens left old octets h k = maybe_string_exceeded room tokens left old octets h k
+rest_exceeded origin Hex room tokens left old octets h k = digits_exceeded InHex room tokens left old octets h k.0
+rest_exceeded origin Base64 room tokens left old octets h k = digits_exceeded InBase64 room tokens left old octets h k.0
+rest_exceeded origin Types room tokens left old octets h k = whole_exceeded NameBitmap types_once room tokens left old octets h k
+rest_exceeded origin SomeTypes room tokens left old octets h k = whole_exceeded NameBitmap types_once room tokens left old octets h k.0
+rest_exceeded origin Text room tokens left old octets h k = text_exceeded false room tokens left old octets h k
+rest_exceeded origin QuotedText room tokens left old octets h k = text_exceeded true room tokens left old octets h k
+rest_exceeded origin OfLocation room tokens left old octets h k = whole_exceeded SpellsLocation locations_are_read.once room tokens left old octets h k
+rest_exceeded origin Prefixes room tokens left old octets h k = prefixes_exceeded room tokens left old octets h k
+rest_exceeded origin GatewayKey room tokens left old octets h k = gateway_key_exceeded origin room left tokens old octets h k
+rest_exceeded origin Params room tokens left old octets h k = params_exceeded room tokens left old octets h k
 
 module _ (origin : Option (List (List ℕ))) (room : Room) (shape : Shape) (end : ℕ) (tokens : List TokenSeen) (old : List ℕ) where
   pub field_refused : (r : RecordError) (left : List TokenSeen) (new : List ℕ) → ParsesAllFields origin room shape.fields.now end tokens old (Err r) left new → ReadsData origin room shape end tokens old (Err r) left new
@@ -82,7 +107,7 @@ module _ (origin : Option (List (List ℕ))) (room : Room) (shape : Shape) (end 
         → (e ≡ ShortBuf) × (room.fits < length old + length octets)
     only_room left e octets (inl h) sp =
         let p = parts octets sp in
-        let lacks = h.1 sp.back p.0 in
+        let lacks = rest_exceeded origin shape.rest room behind left middle sp.back h.1 p.0 in
         let sum = ap length p.1 ∙ length-append t.octets sp.back in
         let start = ap length t.gained ∙ length-append old t.octets in
         (h.0, omega (arith, lacks, sum, start))

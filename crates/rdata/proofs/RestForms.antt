@@ -14,11 +14,12 @@ use Rattle.rdata.specs.RestLaws.{HoldOctets, AreRestForms}
 use Rattle.rdata.specs.Texts.{AreText}
 use Rattle.rdata.specs.TypeLists.{NameTypes, types_form}
 use Rattle.rdata.specs.declared.rest.Rest.{Rest}
-use Rattle.rdata.specs.declared.rest.Rest.TheVariants.{Nothing, Strings, Hex, Base64, Types, SomeTypes, Text, QuotedText, Location as OfLocation, Prefixes, GatewayKey, Params}
+use Rattle.rdata.specs.declared.rest.Rest.TheVariants.{Nothing, Strings, MaybeString, Hex, Base64, Types, SomeTypes, Text, QuotedText, Location as OfLocation, Prefixes, GatewayKey, Params}
 use Rattle.rdata_svcb.proofs.ParamLaws.{params_values}
 use Rattle.rdata_tails.proofs.LocationLaws.{locations_are_read}
+use Rattle.rdata.proofs.MaybeStringLaws.{maybe_string_is_wire}
 use Rattle.rdata.proofs.PlacesWire.{prefixes_are_wire, gateway_key_is_wire, same_key_wire}
-use Rattle.rdata.proofs.Reading.{rest_once}
+use Rattle.rdata.proofs.Reading.{rest_once, rest_exceeded}
 use Rattle.rdata.proofs.WireStrings.{no_strings, string_before}
 
 strings_are_wire : (origin : Option (List (List ℕ))) (tokens : List TokenSeen) (octets : List ℕ) → HoldOctets tokens → SpellsEach origin OfString tokens octets → AreCharacterStrings octets
@@ -45,6 +46,7 @@ text_is_wire wants_quotes (t ∷ u ∷ ts) octets h k = absurd k
 pub rest_is_wire : (origin : Option (List (List ℕ))) → IsOrigin origin → (r : Rest) (tokens : List TokenSeen) (octets : List ℕ) → HoldOctets tokens → (rest_form origin r).spells tokens octets → (rest_form origin r).is_wire octets
 rest_is_wire origin is Nothing tokens octets h k = k.1
 rest_is_wire origin is Strings tokens octets h k = (strings_are_wire origin tokens octets h k.0, k.1)
+rest_is_wire origin is MaybeString tokens octets h k = maybe_string_is_wire tokens octets h k
 rest_is_wire origin is Hex tokens octets h k = (k.0.1.bytes, k.1)
 rest_is_wire origin is Base64 tokens octets h k = (k.0.1.bytes, k.1)
 rest_is_wire origin is Types tokens octets h k = types_are_wire tokens octets k
@@ -57,12 +59,13 @@ rest_is_wire origin is GatewayKey tokens octets h k = gateway_key_is_wire origin
 rest_is_wire origin is Params tokens octets h k = (params_values tokens octets h k, k.right)
 
 pub rests_are_forms : AreRestForms
-rests_are_forms origin is r = record { are_wire = rest_is_wire origin is r; once = rest_once origin r }
+rests_are_forms origin is r = record { are_wire = rest_is_wire origin is r; once = rest_once origin r; exceeded = rest_exceeded origin r }
 
 -- the octets that a kind can have don't depend on the origin
 pub wire_of_rest : (origin : Option (List (List ℕ))) (r : Rest) (octets : List ℕ) → (rest_form origin r).is_wire octets → (rest_form None r).is_wire octets
 wire_of_rest origin Nothing octets h = h
 wire_of_rest origin Strings octets h = h
+wire_of_rest origin MaybeString octets h = h
 wire_of_rest origin Hex octets h = h
 wire_of_rest origin Base64 octets h = h
 wire_of_rest origin Types octets h = h

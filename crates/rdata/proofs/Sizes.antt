@@ -18,7 +18,7 @@ use Rattle.rdata_tokens.proofs.NameLaws.{wire_labels}
 use Rattle.rdata_fields.specs.Fields.{field_form}
 use Rattle.rdata_fields.specs.Forms.{IsWireHash, IsWirePsdnAddress}
 use Rattle.rdata_fields.specs.declared.field.Field.{Field}
-use Rattle.rdata_fields.specs.declared.field.Field.TheVariants.{Number8, Number16, Number32, Interval, Ipv4, Ipv6, RecordType, SigType, Algorithm, CertificateType, Eui48, Eui64, Time, Locator, String, PsdnAddress, Tag, Salt, Hash, Name}
+use Rattle.rdata_fields.specs.declared.field.Field.TheVariants.{Number8, Number16, Number32, Interval, Ipv4, Ipv6, RecordType, SigType, Algorithm, CertificateType, SyncScheme, Eui48, Eui64, Time, Locator, String, PsdnAddress, Tag, Salt, Hash, Name}
 use Rattle.rdata_fields.proofs.FormLaws.{fields_are_forms}
 use Rattle.rdata.specs.GatewayKeys.{labels_size}
 use Rattle.rdata.specs.Printing.{field_size, counted_size}
@@ -64,6 +64,7 @@ field_sized RecordType form more h = sym h.0
 field_sized SigType form more h = sym h.0
 field_sized Algorithm form more h = sym h.0
 field_sized CertificateType form more h = sym h.0
+field_sized SyncScheme form more h = sym h.0
 field_sized Eui48 form more h = sym h.0
 field_sized Eui64 form more h = sym h.0
 field_sized Time form more h = sym h.0
@@ -172,6 +173,7 @@ surely_wire RecordType octets values t = (∥∥₁_elim t (Coded-set coded_ℕ 
 surely_wire SigType octets values t = (∥∥₁_elim t (Coded-set coded_ℕ _ _) (λ h. h.0), values)
 surely_wire Algorithm octets values t = (∥∥₁_elim t (Coded-set coded_ℕ _ _) (λ h. h.0), values)
 surely_wire CertificateType octets values t = (∥∥₁_elim t (Coded-set coded_ℕ _ _) (λ h. h.0), values)
+surely_wire SyncScheme octets values t = (∥∥₁_elim t (Coded-set coded_ℕ _ _) (λ h. h.0), values)
 surely_wire Eui48 octets values t = (∥∥₁_elim t (Coded-set coded_ℕ _ _) (λ h. h.0), values)
 surely_wire Eui64 octets values t = (∥∥₁_elim t (Coded-set coded_ℕ _ _) (λ h. h.0), values)
 surely_wire Time octets values t = (∥∥₁_elim t (Coded-set coded_ℕ _ _) (λ h. h.0), values)

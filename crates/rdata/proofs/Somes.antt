@@ -18,7 +18,7 @@ some_gained old octets new is more none = more (ap length (is ∙ ap (λ o. old 
 
 module _ (f : RestForm) (room : Room) (begun : ℕ) (tokens : List TokenSeen) (old : List ℕ) where
   refused_as : (left : List TokenSeen) (e : _) → RefusesAs room f tokens old left e → RefusesAs room (some_form f) tokens old left e
-  refused_as left e (inl h) = inl (h.0, λ octets sp. h.1 octets sp.0)
+  refused_as left e (inl h) = inl h
   refused_as left e (inr h) = inr (inl h.0, λ octets sp. h.1 octets sp.0)
 
   pub some_refused : (r : RecordError) (left : List TokenSeen) (new : List ℕ) → RefusesRest room f begun tokens old r left new → RefusesRest room (some_form f) begun tokens old r left new

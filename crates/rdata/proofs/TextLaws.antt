@@ -1,17 +1,18 @@
 -- The one token of a text.
-use Rattle.std.proofs.Common.{ℕ, Bool, true, false, true≢false, ◌≡◌, List, [], ◌∷◌, refl, sym, ap, subst, ◌∙◌, inl, inr, append-nil}
+use Rattle.std.proofs.Common.{ℕ, Bool, true, false, true≢false, ◌≡◌, ◌<◌, ◌+◌, List, [], ◌∷◌, length, arith, refl, sym, ap, subst, ◌∙◌, inl, inr, append-nil}
 use Rattle.std.specs.Prelude.{Result, Ok, Err}
 use Rattle.dns_octets.specs.Room.{Room}
 use Rattle.dns_octets.specs.Appending.{Extends, Gains}
 use Rattle.rdata_fields.specs.Source.{next_place}
 use Rattle.rdata_tokens.specs.Spelling.{SpellsOctetList, RefusesOctets}
+use Rattle.rdata_tokens.proofs.Fronts.{fewer_spelled}
 use Rattle.rdata_fields.specs.RecordErrors.{error_at}
 use Rattle.rdata_fields.specs.declared.record_error.RecordError.{RecordError}
 use Rattle.rdata_values.specs.declared.error.ErrorKind.{ErrorKind}
 use Rattle.rdata_values.specs.declared.error.ErrorKind.TheVariants.{ShortBuf, NotQuoted, BadEscape}
 use Rattle.dns_lexer.specs.EntryTokens.{TokenSeen}
 use Rattle.rdata.specs.Rests.{RefusesAs, RefusesRest, ParsesTail}
-use Rattle.rdata.specs.Texts.{AreText, ExpectsNoToken, text_form, nothing_form}
+use Rattle.rdata.specs.Texts.{AreText, HasQuotes, TextReason, ExpectsNoToken, text_form, nothing_form}
 use Rattle.rdata.proofs.ErrorPlaces.{placed, kind_of, known_at}
 
 -- no token is unread, and nothing is appended
@@ -20,7 +21,7 @@ nothing_taken room end tokens left old new (Ok x) is h = (h.1, ([], (h.0, refl),
 nothing_taken room end [] left old new (Err r) is h = absurd h
 nothing_taken room end (t ∷ ts) left old new (Err r) is h = record {
   at = known_at r h.1 (ap (λ l. next_place l end) (sym h.0));
-  why = inr ((h.0, kind_of r h.1), λ octets sp. (let bad : t ∷ ts ≡ [] = sp.0 in cc bad));
+  why = inr ((h.0, (λ none. cc none), kind_of r h.1), λ octets sp. (let bad : t ∷ ts ≡ [] = sp.0 in cc bad));
   extends = ([], is ∙ sym (append-nil old));
 }
 
@@ -46,14 +47,14 @@ module _ (wants_quotes : Bool) (room : Room) (end : ℕ) (t : TokenSeen) (tokens
       (inr (([], is, inl (refl, wants, plain)), λ octets sp. true≢false (sym ((of_first octets sp).0 wants) ∙ plain)))
       ([], sym (append-nil old))
 
-  spelling_refused : (e : ErrorKind) → RefusesOctets room t.text old e → RefusesAs room (text_form wants_quotes) tokens old (t ∷ rest) e
-  spelling_refused BadEscape h = inr (([], is, inr (refl, h.0)), λ octets sp. h.1 octets (of_first octets sp).1)
-  spelling_refused ShortBuf h = inl (refl, λ octets sp. h octets (of_first octets sp).1)
-  spelling_refused other h = absurd h
+  spelling_refused : (e : ErrorKind) → HasQuotes wants_quotes t → RefusesOctets room t.text old e → RefusesAs room (text_form wants_quotes) tokens old (t ∷ rest) e
+  spelling_refused BadEscape quotes h = inr (([], is, inr (refl, quotes, h.0)), λ octets sp. h.1 octets (of_first octets sp).1)
+  spelling_refused ShortBuf quotes h = inl (refl, subst (λ ts. (text_form wants_quotes).exceeds room ts (t ∷ rest) old) (sym is) (refl, quotes, h))
+  spelling_refused other quotes h = absurd h
 
-  pub escape_refused : (at : ℕ) (e : ErrorKind) (new : List ℕ) → RefusesOctets room t.text old e → at ≡ next_place tokens end → Extends old new
+  pub escape_refused : (at : ℕ) (e : ErrorKind) (new : List ℕ) → HasQuotes wants_quotes t → RefusesOctets room t.text old e → at ≡ next_place tokens end → Extends old new
       → RefusesRest room (text_form wants_quotes) end tokens old (error_at at e) tokens new
-  escape_refused at e new why place extends = at_first at e tokens new place refl (spelling_refused e why) extends
+  escape_refused at e new quotes why place extends = at_first at e tokens new place refl (spelling_refused e quotes why) extends
 
   pub text_taken : (r : Result (Unit {0}) RecordError) (begun : ℕ) (middle left : List TokenSeen) (new : List ℕ) → begun ≡ end → middle ≡ rest → (wants_quotes ≡ true → t.is_quoted ≡ true) → Gains (SpellsOctetList t.text) old new
       → ExpectsNoToken begun middle r left → ParsesTail room (text_form wants_quotes) end tokens old r left new
@@ -65,6 +66,16 @@ module _ (wants_quotes : Bool) (room : Room) (end : ℕ) (t : TokenSeen) (tokens
       let all : tokens ≡ t ∷ u ∷ us = is ∙ ap (λ l. t ∷ l) (sym same) in
       record {
         at = known_at r h.1 (ap (λ l. next_place l end) (sym h.0));
-        why = inr ((t ∷ [], all ∙ ap (λ l. t ∷ l) (sym h.0), (refl, kind_of r h.1)), λ octets sp. subst (λ ts. AreText wants_quotes ts octets) all sp);
+        why = inr (
+          (t ∷ [], all ∙ ap (λ l. t ∷ l) (sym h.0), subst (λ l. TextReason wants_quotes (t ∷ []) l r.kind) (sym h.0) (kind_of r h.1, (gains.0, (quotes, gains.1)))),
+          λ octets sp. subst (λ ts. AreText wants_quotes ts octets) all sp,
+        );
         extends = (gains.0, gains.2);
       }
+
+-- octets at the start of a text exceed the room
+pub text_exceeded : (wants_quotes : Bool) (room : Room) (tokens left : List TokenSeen) (old octets : List ℕ) → (text_form wants_quotes).exceeds room tokens left old → AreText wants_quotes tokens octets
+    → room.fits < length old + length octets
+text_exceeded wants_quotes room [] left old octets h sp = absurd h
+text_exceeded wants_quotes room (t ∷ []) left old octets h sp = let few = fewer_spelled t.text h.2.0 h.2.1.0 octets h.2.1.1 sp.1 in omega (arith, h.2.2, few)
+text_exceeded wants_quotes room (t ∷ u ∷ ts) left old octets h sp = absurd sp

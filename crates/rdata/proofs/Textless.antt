@@ -11,7 +11,7 @@ use Rattle.rdata.specs.Printing.{after_fields, field_size, printed_data, printed
 use Rattle.rdata.specs.RestKinds.{IsRestOf, IsTextless, has_no_text, rest_form}
 use Rattle.rdata.specs.Wire.{BeginsWithFields}
 use Rattle.rdata.specs.declared.rest.Rest.{Rest}
-use Rattle.rdata.specs.declared.rest.Rest.TheVariants.{Nothing, Strings, Hex, Base64, Types, SomeTypes, Text, QuotedText, Location as OfLocation, Prefixes, GatewayKey, Params}
+use Rattle.rdata.specs.declared.rest.Rest.TheVariants.{Nothing, Strings, MaybeString, Hex, Base64, Types, SomeTypes, Text, QuotedText, Location as OfLocation, Prefixes, GatewayKey, Params}
 use Rattle.rdata.specs.declared.shape.Shape.{Shape}
 use Rattle.rdata.proofs.ItemLaws.{AreItems, prefixes_are_items, prefixes_known}
 use Rattle.rdata.proofs.Sizes.{field_sized}
@@ -34,6 +34,7 @@ rest_has_text OfLocation octets is = ap is_other_version is.1.1
 rest_has_text Prefixes octets is = prefixes_known octets is
 rest_has_text Nothing octets is = refl
 rest_has_text Strings octets is = refl
+rest_has_text MaybeString octets is = refl
 rest_has_text Hex octets is = refl
 rest_has_text Base64 octets is = refl
 rest_has_text Types octets is = refl
@@ -48,6 +49,7 @@ rest_has_none OfLocation octets is = is
 rest_has_none Prefixes octets is = is.1
 rest_has_none Nothing octets is = absurd is
 rest_has_none Strings octets is = absurd is
+rest_has_none MaybeString octets is = absurd is
 rest_has_none Hex octets is = absurd is
 rest_has_none Base64 octets is = absurd is
 rest_has_none Types octets is = absurd is

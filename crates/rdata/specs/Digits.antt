@@ -1,9 +1,11 @@
 -- Octets in digits to the end of an entry.
 use Rattle.std.specs.Prelude.{ℕ, ◌≡◌, ◌⊎◌, true, false, List, [], ◌∷◌, ◌++◌}
 use Rattle.std.specs.List.{AllByRecursion}
+use Rattle.dns_octets.specs.Room.{Room}
+use Rattle.dns_octets.specs.Appending.{ExceedsRoom}
 use Rattle.dns_codec.specs.Base.{Base, encoded}
 use Rattle.rdata_tokens.specs.Reading.{PaddedBefore}
-use Rattle.rdata_tokens.specs.Spelled.{SpellsDigits, base_of, illegal, unfinished}
+use Rattle.rdata_tokens.specs.Spelled.{SpellsDigits, BeginsWithDigits, base_of, illegal, unfinished}
 use Rattle.rdata_tokens.specs.Tokens.{DigitsContinue}
 use Rattle.rdata_values.specs.declared.error.ErrorKind.{ErrorKind}
 use Rattle.rdata_values.specs.declared.error.ErrorKind.TheVariants.{Quoted, TrailingBase64}
@@ -24,16 +26,21 @@ AreUnquoted tokens = AllByRecursion (λ t. t.is_quoted ≡ false) tokens
 abbrev pub SpellsJoined : Base → List TokenSeen → List ℕ → Type 0
 SpellsJoined b tokens octets = AreUnquoted tokens × SpellsDigits b (joined_words tokens) octets
 
--- why digits spell no octets: they end within a group; or no continuation spells octets, and then
--- whether something follows a padded group
+-- the octets that digits of words begin with, up to the first unread word and with it, don't surely fit
+abbrev pub ExceedsDigits : DigitsKind → Room → List TokenSeen → List TokenSeen → List ℕ → Type 0
+ExceedsDigits kind room tokens [] old = ⊥
+ExceedsDigits kind room tokens (t ∷ ts) old =
+    (before : List TokenSeen) × (tokens ≡ before ++ t ∷ ts) × AreUnquoted (before ++ t ∷ []) × ExceedsRoom room (BeginsWithDigits (base_of kind) (joined_words (before ++ t ∷ []))) old
+
+-- why no digits that begin so spell octets: something follows a padded group, or not
 abbrev pub IsDigitsFault : DigitsKind → List ℕ → ErrorKind → Type 0
 IsDigitsFault kind text e =
-    ((e ≡ unfinished kind) × DigitsContinue kind text)
-    ⊎ ((((e ≡ illegal kind) × (PaddedBefore (base_of kind) text → ⊥)) ⊎ ((e ≡ TrailingBase64) × PaddedBefore (base_of kind) text)) × (DigitsContinue kind text → ⊥))
+    (((e ≡ illegal kind) × (PaddedBefore (base_of kind) text → ⊥)) ⊎ ((e ≡ TrailingBase64) × PaddedBefore (base_of kind) text)) × (DigitsContinue kind text → ⊥)
 
--- why the next token after words is rejected: it is a quoted string; or the digits up to its end are wrong
+-- Why digits are rejected after words with which digits of octets begin: they end within a group; or
+-- the next token is a quoted string; or the digits up to its end are wrong.
 abbrev pub JoinedReason : DigitsKind → List TokenSeen → List TokenSeen → ErrorKind → Type 0
-JoinedReason kind before [] e = IsDigitsFault kind (joined_words before) e
+JoinedReason kind before [] e = e ≡ unfinished kind
 JoinedReason kind before (t ∷ ts) e = ((e ≡ Quoted) × (t.is_quoted ≡ true)) ⊎ ((t.is_quoted ≡ false) × IsDigitsFault kind (joined_words (before ++ t ∷ [])) e)
 
 -- octets print as one word, or as no word if there are none
@@ -45,7 +52,8 @@ printed_digits b (o ∷ os) = record { is_quoted = false; text = encoded b (o �
 abbrev pub digits_form : DigitsKind → RestForm
 digits_form kind = record {
   spells = SpellsJoined (base_of kind);
-  reason = AfterSomeTokens (λ before left e. AreUnquoted before × JoinedReason kind before left e);
+  exceeds = ExceedsDigits kind;
+  reason = AfterSomeTokens (λ before left e. AreUnquoted before × DigitsContinue kind (joined_words before) × JoinedReason kind before left e);
   is_wire = AreOctetValues;
   printed = printed_digits (base_of kind);
 }

@@ -5,7 +5,7 @@ use Rattle.std.specs.Net.Text.{ipv4_text}
 use Rattle.dns_octets.specs.Room.{Room}
 use Rattle.rdata_tokens.specs.declared.kind.DigitsKind.TheVariants.{Base64 as InBase64}
 use Rattle.rdata_fields.specs.Fields.{field_form}
-use Rattle.rdata_fields.specs.Parsing.{SpellsField}
+use Rattle.rdata_fields.specs.Parsing.{BeginsField, SpellsField}
 use Rattle.rdata_fields.specs.TokenParsers.{TokenParser}
 use Rattle.rdata_values.specs.declared.error.ErrorKind.{ErrorKind}
 use Rattle.rdata_values.specs.declared.error.ErrorKind.TheVariants.{EndOfEntry, Quoted, ExpectedGateway, UnknownGateway}
@@ -27,6 +27,7 @@ plain_word text = record { is_quoted = false; text = text }
 abbrev pub octet_form : TokenForm
 octet_form = record {
   spells = SpellsField None OfNumber8;
+  begins = BeginsField None OfNumber8;
   reason = FieldReason None OfNumber8;
   is_wire = (field_form None OfNumber8).is_wire;
   width = λ octets. 1;
@@ -41,6 +42,7 @@ GatewayTypeReason t e = octet_form.reason t e ⊎ ((e ≡ UnknownGateway) × ((o
 abbrev pub gateway_type_form : TokenForm
 gateway_type_form = record {
   spells = λ t octets. octet_form.spells t octets × (slice_index octets 0 ≤ 3);
+  begins = λ t octets. octet_form.spells t octets × (slice_index octets 0 ≤ 3);
   reason = GatewayTypeReason;
   is_wire = λ octets. octet_form.is_wire octets × (slice_index octets 0 ≤ 3);
   width = octet_form.width;
@@ -55,7 +57,7 @@ ReadsGatewayType t (Err e) = GatewayTypeReason t e × ((octets : List ℕ) → g
 -- the number that the next token spells is appended, and the token read; or it is rejected
 abbrev pub ParsesNumberAs : TokenForm → Room → TokenParser ℕ
 ParsesNumberAs f room end tokens old (Ok number) left new = (t : TokenSeen) × (tokens ≡ t ∷ left) × f.spells t (number ∷ []) × (new ≡ old ++ number ∷ [])
-ParsesNumberAs f room end tokens old (Err r) left new = ParsesTokenAs room f.spells f.reason end tokens old (Err r) left new
+ParsesNumberAs f room end tokens old (Err r) left new = ParsesTokenAs room f.begins f.spells f.reason end tokens old (Err r) left new
 
 -- the type of a gateway, and the algorithm of a key, parsed so
 abbrev pub ParsesGatewayType : Room → TokenParser ℕ
@@ -76,7 +78,7 @@ AddressReason t e = ((e ≡ Quoted) × (t.is_quoted ≡ true)) ⊎ ((e ≡ Expec
 
 -- the next word is parsed as such a gateway; or it is rejected
 abbrev pub ParsesGatewayAddress : Room → ℕ → TokenParser (Unit {0})
-ParsesGatewayAddress room number = ParsesTokenAs room (SpellsAddress number) AddressReason
+ParsesGatewayAddress room number = ParsesTokenAs room (SpellsAddress number) (SpellsAddress number) AddressReason
 
 -- the octets of a gateway that is not a name
 abbrev pub IsAddressOf : ℕ → List ℕ → Type 0
@@ -99,6 +101,7 @@ gateway_word number octets = if number == 0 then codes "." else if number == 1 t
 abbrev pub gateway_form : Option (List (List ℕ)) → ℕ → TokenForm
 gateway_form origin number = record {
   spells = λ t octets. ((number ≡ 3) × SpellsField origin OfName t octets) ⊎ SpellsAddress number t octets;
+  begins = λ t octets. ((number ≡ 3) × BeginsField origin OfName t octets) ⊎ SpellsAddress number t octets;
   reason = λ t e. ((number ≡ 3) × FieldReason origin OfName t e) ⊎ ((number ≢ 3) × AddressReason t e);
   is_wire = λ octets. ((number ≡ 3) × IsWireName octets) ⊎ IsAddressOf number octets;
   width = gateway_size number;
@@ -111,6 +114,7 @@ gateway_form origin number = record {
 abbrev pub key_form : ℕ → RestForm
 key_form algorithm = record {
   spells = λ tokens octets. (digits_form InBase64).spells tokens octets × (octets ≡ [] → algorithm ≡ 0);
+  exceeds = (digits_form InBase64).exceeds;
   reason = λ tokens left e. (digits_form InBase64).reason tokens left e ⊎ ((e ≡ EndOfEntry) × (left ≡ []) × (algorithm ≢ 0) × (digits_form InBase64).spells tokens []);
   is_wire = λ octets. (digits_form InBase64).is_wire octets × (octets ≡ [] → algorithm ≡ 0);
   printed = (digits_form InBase64).printed;

@@ -1,5 +1,6 @@
 -- RDATA in the generic form (RFC 3597 section 5).
 use Rattle.std.specs.Prelude.{ℕ, ◌≡◌, ◌≢◌, ◌⊎◌, ◌^◌, true, false, List, [], ◌∷◌, length, codes, decimal, Result, Ok, Err}
+use Rattle.dns_octets.specs.Room.{Room}
 use Rattle.dns_codec.specs.Base.{base16}
 use Rattle.rdata_tokens.specs.declared.kind.DigitsKind.TheVariants.{Hex}
 use Rattle.rdata_fields.specs.Source.{next_place}
@@ -48,17 +49,26 @@ SpellsGeneric (mark ∷ count ∷ digits) octets = IsGenericMark mark × IsCount
 abbrev pub IsOtherCount : TokenSeen → List TokenSeen → ErrorKind → Type 0
 IsOtherCount count digits e = (wanted : ℕ) × (octets : List ℕ) × IsCount count wanted × SpellsJoined base16 digits octets × (length octets ≢ wanted) × (e ≡ WrongLength (length octets) wanted)
 
--- why tokens after the mark are rejected: the first is not a number; or the others are not octets in digits; or there is another number of octets
+-- after the mark and a number, octets that a beginning of the digits spells don't surely fit
+abbrev pub ExceedsGeneric : Room → List TokenSeen → List TokenSeen → List ℕ → Type 0
+ExceedsGeneric room [] left old = ⊥
+ExceedsGeneric room (mark ∷ []) left old = ⊥
+ExceedsGeneric room (mark ∷ count ∷ digits) left old = IsGenericMark mark × ((wanted : ℕ) × IsCount count wanted) × (digits_form Hex).exceeds room digits left old
+
+-- Why tokens after the mark are rejected: the first is not a number; or it is one, and the others are
+-- not octets in digits, or have another number of octets.
 abbrev pub GenericReason : List TokenSeen → List TokenSeen → ErrorKind → Type 0
 GenericReason [] left e = ⊥
 GenericReason (mark ∷ tokens) left e =
     ((left ≡ tokens) × WhyNoCount tokens e)
-    ⊎ ((count : TokenSeen) × (digits : List TokenSeen) × (tokens ≡ count ∷ digits) × ((digits_form Hex).reason digits left e ⊎ (IsOtherCount count digits e × (left ≡ []))))
+    ⊎ ((count : TokenSeen) × (digits : List TokenSeen) × (tokens ≡ count ∷ digits)
+    × ((((wanted : ℕ) × IsCount count wanted) × (digits_form Hex).reason digits left e) ⊎ (IsOtherCount count digits e × (left ≡ []))))
 
 -- the mark and the number print as words, and the octets as one
 abbrev pub generic_form : RestForm
 generic_form = record {
   spells = SpellsGeneric;
+  exceeds = ExceedsGeneric;
   reason = GenericReason;
   is_wire = AreOctetValues;
   printed = λ octets. record { is_quoted = false; text = codes "\\#" } ∷ record { is_quoted = false; text = decimal (length octets) } ∷ printed_digits base16 octets;

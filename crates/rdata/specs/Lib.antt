@@ -5,6 +5,7 @@ pub mod Digits
 pub mod Generic
 pub mod Limits
 pub mod LocationRest
+pub mod MaybeStrings
 pub mod Pieces
 pub mod PrintLaws
 pub mod PrintRows

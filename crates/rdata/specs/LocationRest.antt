@@ -6,7 +6,7 @@ use Rattle.rdata_tails.specs.LocationParsing.{RefusesTokens}
 use Rattle.rdata_tails.specs.LocationWords.{IsLocation, location_words}
 use Rattle.rdata_tails.specs.Locations.{SpellsLocation}
 use Rattle.rdata_tails.specs.declared.location.Location.{Location}
-use Rattle.rdata.specs.Rests.{RestForm}
+use Rattle.rdata.specs.Rests.{RestForm, ExceedsWhole}
 
 -- the location of 16 octets: a version, three sizes, and three numbers
 abbrev pub location_at : List ℕ → Location
@@ -24,6 +24,7 @@ is_other_version octets = not (slice_index octets 0 == 0)
 abbrev pub location_form : RestForm
 location_form = record {
   spells = SpellsLocation;
+  exceeds = ExceedsWhole SpellsLocation;
   reason = λ tokens left e. RefusesTokens e tokens left × IsFirstRefused tokens left;
   is_wire = λ octets. (l : Location) × IsLocation octets l;
   printed = λ octets. map (λ word. record { is_quoted = false; text = word }) (location_words (location_at octets));

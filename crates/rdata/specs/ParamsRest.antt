@@ -2,7 +2,7 @@
 use Rattle.std.specs.Prelude.{map}
 use Rattle.rdata_svcb.specs.Params.{params_of}
 use Rattle.rdata_svcb.specs.ParamsFaults.{AreRightParams}
-use Rattle.rdata_svcb.specs.ParamRefusals.{ParamsReason}
+use Rattle.rdata_svcb.specs.ParamRefusals.{ExceedsParams, ParamsReason}
 use Rattle.rdata_svcb.specs.ParamTokens.{SpellsParams}
 use Rattle.rdata_svcb.specs.ShownParams.{param_text}
 use Rattle.rdata_tokens.specs.Spelling.{AreOctetValues}
@@ -13,7 +13,8 @@ use Rattle.rdata.specs.Rests.{RestForm}
 abbrev pub params_form : RestForm
 params_form = record {
   spells = SpellsParams;
-  reason = λ tokens left e. ParamsReason left e;
+  exceeds = ExceedsParams;
+  reason = ParamsReason;
   is_wire = λ octets. AreOctetValues octets × AreRightParams octets;
   printed = λ octets. map (λ p. plain_word (param_text p)) (params_of octets);
 }

@@ -40,6 +40,7 @@ item_size octets = 4 + slice_index octets 3 % 128
 abbrev pub prefix_form : TokenForm
 prefix_form = record {
   spells = λ t octets. (t.is_quoted ≡ false) × SpellsItem t.text octets;
+  begins = λ t octets. (t.is_quoted ≡ false) × SpellsItem t.text octets;
   reason = PrefixReason;
   is_wire = IsPrefixItem;
   width = item_size;

@@ -3,7 +3,7 @@ use Rattle.std.specs.Prelude.{ℕ, None, ◌+◌, if◌then◌else◌, List, [],
 use Rattle.dns_symbol.specs.Characters.{double_quote}
 use Rattle.rdata_fields.specs.Fields.{field_form}
 use Rattle.rdata_fields.specs.declared.field.Field.{Field}
-use Rattle.rdata_fields.specs.declared.field.Field.TheVariants.{Number8, Number16, Number32, Interval, Ipv4, Ipv6, RecordType, SigType, Algorithm, CertificateType, Eui48, Eui64, Time, Locator, String, PsdnAddress, Tag, Salt, Hash, Name}
+use Rattle.rdata_fields.specs.declared.field.Field.TheVariants.{Number8, Number16, Number32, Interval, Ipv4, Ipv6, RecordType, SigType, Algorithm, CertificateType, SyncScheme, Eui48, Eui64, Time, Locator, String, PsdnAddress, Tag, Salt, Hash, Name}
 use Rattle.rdata.specs.GatewayKeys.{labels_size}
 use Rattle.rdata.specs.Rests.{PrintedToken}
 use Rattle.rdata.specs.Generic.{generic_form}
@@ -27,6 +27,7 @@ field_size RecordType octets = 2
 field_size SigType octets = 2
 field_size Algorithm octets = 1
 field_size CertificateType octets = 2
+field_size SyncScheme octets = 1
 field_size Eui48 octets = 6
 field_size Eui64 octets = 8
 field_size Time octets = 4

@@ -6,27 +6,28 @@ use Rattle.rdata_tokens.specs.Shown.{text_in_quotes}
 use Rattle.rdata_tokens.specs.Spelling.{AreOctetValues}
 use Rattle.rdata_tokens.specs.declared.kind.DigitsKind.TheVariants.{Hex as InHex, Base64 as InBase64}
 use Rattle.rdata_fields.specs.Forms.{StringReason}
-use Rattle.rdata_fields.specs.Parsing.{SpellsEach}
+use Rattle.rdata_fields.specs.Parsing.{BeginsField, SpellsEach}
 use Rattle.rdata_fields.specs.TokenParsers.{TokenParser}
 use Rattle.rdata_values.specs.declared.error.ErrorKind.{ErrorKind}
 use Rattle.rdata_fields.specs.declared.field.Field.TheVariants.{String as OfString}
 use Rattle.dns_lexer.specs.EntryTokens.{TokenSeen}
 use Rattle.rdata.specs.Digits.{digits_form}
 use Rattle.rdata.specs.GatewayKeys.{IsGatewayPart, gateway_key_form}
+use Rattle.rdata.specs.MaybeStrings.{maybe_string_form}
 use Rattle.rdata.specs.ParamsRest.{params_form}
 use Rattle.rdata.specs.PrefixLists.{IsAnyItem, has_other_family, prefixes_form}
-use Rattle.rdata.specs.Rests.{RestForm, AfterSomeTokens, ParsesInParts, some_form}
+use Rattle.rdata.specs.Rests.{RestForm, AfterSomeTokens, ExceedsAfter, ParsesInParts, some_form}
 use Rattle.rdata.specs.LocationRest.{is_other_version, location_form}
 use Rattle.rdata.specs.TokenForms.{AreParts}
 use Rattle.rdata.specs.Texts.{nothing_form, text_form}
 use Rattle.rdata.specs.TypeLists.{types_form}
 use Rattle.rdata.specs.declared.rest.Rest.{Rest}
-use Rattle.rdata.specs.declared.rest.Rest.TheVariants.{Nothing, Strings, Hex, Base64, Types, SomeTypes, Text, QuotedText, Location as OfLocation, Prefixes, GatewayKey, Params}
+use Rattle.rdata.specs.declared.rest.Rest.TheVariants.{Nothing, Strings, MaybeString, Hex, Base64, Types, SomeTypes, Text, QuotedText, Location as OfLocation, Prefixes, GatewayKey, Params}
 
--- why the next token is not a character string
-abbrev pub StringTokensReason : List TokenSeen → List TokenSeen → ErrorKind → Type 0
-StringTokensReason before [] e = ⊥
-StringTokensReason before (t ∷ ts) e = StringReason t.is_quoted t.text e
+-- after character strings, why the next token is not one
+abbrev pub StringTokensReason : Option (List (List ℕ)) → List TokenSeen → List TokenSeen → ErrorKind → Type 0
+StringTokensReason origin before [] e = ⊥
+StringTokensReason origin before (t ∷ ts) e = ((octets : List ℕ) × SpellsEach origin OfString before octets) × StringReason t.is_quoted t.text e
 
 -- strings after their lengths, one after another
 abbrev pub strings_wire : List (List ℕ) → List ℕ
@@ -52,7 +53,8 @@ strings_in_octets octets = strings_in (length octets) octets
 abbrev pub strings_form : Option (List (List ℕ)) → RestForm
 strings_form origin = record {
   spells = SpellsEach origin OfString;
-  reason = AfterSomeTokens StringTokensReason;
+  exceeds = ExceedsAfter (SpellsEach origin OfString) (BeginsField origin OfString);
+  reason = AfterSomeTokens (StringTokensReason origin);
   is_wire = AreCharacterStrings;
   printed = λ octets. map (λ s. record { is_quoted = true; text = text_in_quotes s }) (strings_in_octets octets);
 }
@@ -61,6 +63,7 @@ strings_form origin = record {
 abbrev pub rest_form : Option (List (List ℕ)) → Rest → RestForm
 rest_form origin Nothing = nothing_form
 rest_form origin Strings = some_form (strings_form origin)
+rest_form origin MaybeString = maybe_string_form
 rest_form origin Hex = some_form (digits_form InHex)
 rest_form origin Base64 = some_form (digits_form InBase64)
 rest_form origin Types = types_form
@@ -76,6 +79,7 @@ rest_form origin Params = params_form
 abbrev pub IsRestPart : Option (List (List ℕ)) → Rest → List TokenSeen → List TokenSeen → ℕ → Type 0
 IsRestPart origin Nothing tokens left part = part ≡ 0
 IsRestPart origin Strings tokens left part = part ≡ 0
+IsRestPart origin MaybeString tokens left part = part ≡ 0
 IsRestPart origin Hex tokens left part = part ≡ 0
 IsRestPart origin Base64 tokens left part = part ≡ 0
 IsRestPart origin Types tokens left part = part ≡ 0

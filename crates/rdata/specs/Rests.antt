@@ -1,7 +1,7 @@
 -- Tails, which go to the end of an entry: the tokens that spell one, its octets, and the tokens that it prints as.
 use Rattle.std.specs.Prelude.{ℕ, ◌≡◌, ◌≢◌, ◌⊎◌, ◌+◌, length, ⊤, Bool, false, List, [], ◌∷◌, ◌++◌, Result, Ok, Err}
 use Rattle.dns_octets.specs.Room.{Room}
-use Rattle.dns_octets.specs.Appending.{Extends, Gains, LacksRoom}
+use Rattle.dns_octets.specs.Appending.{Extends, Gains, ExceedsRoom}
 use Rattle.dns_lexer.specs.EntryTokens.{TokenSeen}
 use Rattle.rdata_fields.specs.Source.{next_place}
 use Rattle.rdata_fields.specs.TokenParsers.{TokenParser}
@@ -25,20 +25,31 @@ ArePrinted (p ∷ ps) (t ∷ ts) = (t.is_quoted ≡ p.is_quoted) × (t.text ≡ 
 pub record RestForm : Type 1 where
   -- the unread tokens of an entry spell these octets
   pub spells : List TokenSeen → List ℕ → Type 0
+  -- octets that a beginning of the tokens spells don't surely fit after old ones; and these are the tokens that are then unread
+  pub exceeds : Room → List TokenSeen → List TokenSeen → List ℕ → Type 0
   -- why the first unread token is rejected, or why the entry's end is
   pub reason : List TokenSeen → List TokenSeen → ErrorKind → Type 0
   -- the octets that it can have
   pub is_wire : List ℕ → Type 0
   pub printed : List ℕ → List PrintedToken
 
+-- some of the tokens spell octets, and those that a beginning of the next spells don't surely fit after them
+abbrev pub ExceedsAfter : (List TokenSeen → List ℕ → Type 0) → (TokenSeen → List ℕ → Type 0) → Room → List TokenSeen → List TokenSeen → List ℕ → Type 0
+ExceedsAfter Spell Begins room tokens [] old = ⊥
+ExceedsAfter Spell Begins room tokens (t ∷ ts) old = (before : List TokenSeen) × (octets : List ℕ) × (tokens ≡ before ++ t ∷ ts) × Spell before octets × ExceedsRoom room (Begins t) (old ++ octets)
+
+-- all tokens are read before an octet is appended, and the octets that they spell don't surely fit
+abbrev pub ExceedsWhole : (List TokenSeen → List ℕ → Type 0) → Room → List TokenSeen → List TokenSeen → List ℕ → Type 0
+ExceedsWhole Spell room tokens left old = (left ≡ []) × ExceedsRoom room (Spell tokens) old
+
 -- some of the tokens are read, and the next is rejected for this reason
 abbrev pub AfterSomeTokens : (List TokenSeen → List TokenSeen → ErrorKind → Type 0) → List TokenSeen → List TokenSeen → ErrorKind → Type 0
 AfterSomeTokens Why tokens left e = (before : List TokenSeen) × (tokens ≡ before ++ left) × Why before left e
 
--- why tokens were not parsed: the octets don't surely fit; or the tokens spell none, for this reason
+-- why tokens were not parsed: octets that a beginning of them spells don't surely fit; or they spell none, for this reason
 abbrev pub RefusesAs : Room → RestForm → List TokenSeen → List ℕ → List TokenSeen → ErrorKind → Type 0
 RefusesAs room f tokens old left e =
-    ((e ≡ ShortBuf) × LacksRoom room (f.spells tokens) old) ⊎ (f.reason tokens left e × ((octets : List ℕ) → f.spells tokens octets → ⊥))
+    ((e ≡ ShortBuf) × f.exceeds room tokens left old) ⊎ (f.reason tokens left e × ((octets : List ℕ) → f.spells tokens octets → ⊥))
 
 -- some tokens are read, and the next is rejected, or the entry's end is
 pub record RefusesRest (room : Room) (f : RestForm) (end : ℕ) (tokens : List TokenSeen) (old : List ℕ) (r : RecordError) (left : List TokenSeen) (new : List ℕ) : Type 0 where
@@ -66,6 +77,7 @@ in_field_after before (Err e) = Err (error_in_field before e)
 abbrev pub some_form : RestForm → RestForm
 some_form f = record {
   spells = λ tokens octets. f.spells tokens octets × (octets ≢ []);
+  exceeds = f.exceeds;
   reason = λ tokens left e. f.reason tokens left e ⊎ ((e ≡ EndOfEntry) × (left ≡ []) × f.spells tokens []);
   is_wire = λ octets. f.is_wire octets × (octets ≢ []);
   printed = f.printed;

@@ -8,7 +8,7 @@ use Rattle.rdata_values.specs.Types.{SpellsType, portable_text}
 use Rattle.rdata_values.specs.declared.types.RecordType.{RecordType}
 use Rattle.rdata_values.specs.Bitmap.{bitmap, has, types_of, IsBitmap, SameTypes}
 use Rattle.dns_lexer.specs.EntryTokens.{TokenSeen}
-use Rattle.rdata.specs.Rests.{RestForm, AfterSomeTokens}
+use Rattle.rdata.specs.Rests.{RestForm, AfterSomeTokens, ExceedsWhole}
 
 -- a word names a type other than 0
 abbrev pub NamesType : TokenSeen → RecordType → Type 0
@@ -33,15 +33,20 @@ InsertsNext types end tokens (Ok _) more left = (t : TokenSeen) × (tokens ≡ t
 InsertsNext types end [] (Err r) more left = (left ≡ []) × (r ≡ error_at end EndOfEntry)
 InsertsNext types end (t ∷ ts) (Err r) more left = (left ≡ t ∷ ts) × IsErrorAt t.at r × NamesNone t r.kind
 
--- after some tokens, why the next is rejected
+-- the bitmap of the types that words name
+abbrev pub NameBitmap : List TokenSeen → List ℕ → Type 0
+NameBitmap tokens octets = (types : List RecordType) × NameTypes tokens types × (octets ≡ bitmap types)
+
+-- after words that name types, why the next token is rejected
 abbrev pub TypesReason : List TokenSeen → List TokenSeen → ErrorKind → Type 0
 TypesReason before [] e = ⊥
-TypesReason before (t ∷ ts) e = NamesNone t e
+TypesReason before (t ∷ ts) e = ((types : List RecordType) × NameTypes before types) × NamesNone t e
 
 -- types in any order, repeated or not, except 0; they print in ascending order, each as a word, by name if every reader knows that
 abbrev pub types_form : RestForm
 types_form = record {
-  spells = λ tokens octets. (types : List RecordType) × NameTypes tokens types × (octets ≡ bitmap types);
+  spells = NameBitmap;
+  exceeds = ExceedsWhole NameBitmap;
   reason = AfterSomeTokens TypesReason;
   is_wire = λ octets. IsBitmap octets × (has (types_of octets) 0 ≡ false);
   printed = λ octets. map (λ rtype. record { is_quoted = false; text = portable_text rtype }) (types_of octets);

@@ -2,11 +2,11 @@
 use Rattle.std.specs.Prelude.{ℕ, ◌≡◌, ◌==◌, find, map, Option, option_map, List, [], ◌∷◌, codes}
 use Rattle.rdata_tokens.specs.declared.digests.Digests.TheVariants.{Ds, Sshfp, Zonemd}
 use Rattle.rdata_fields.specs.declared.field.Field.{Field}
-use Rattle.rdata_fields.specs.declared.field.Field.TheVariants.{Number8, Number16, Number32, Interval, Ipv4, Ipv6, RecordType as OfType, SigType, Algorithm, CertificateType, Eui48, Eui64, Time, Locator, String, PsdnAddress, Tag, Salt, Hash, Name}
+use Rattle.rdata_fields.specs.declared.field.Field.TheVariants.{Number8, Number16, Number32, Interval, Ipv4, Ipv6, RecordType as OfType, SigType, Algorithm, CertificateType, SyncScheme, Eui48, Eui64, Time, Locator, String, PsdnAddress, Tag, Salt, Hash, Name}
 use Rattle.rdata_values.specs.Rtype as Rtype
 use Rattle.rdata_values.specs.declared.types.RecordType.{RecordType}
 use Rattle.rdata.specs.declared.rest.Rest.{Rest}
-use Rattle.rdata.specs.declared.rest.Rest.TheVariants.{Base64, GatewayKey, Hex, Location as OfLocation, Nothing, Params, Prefixes, QuotedText, SomeTypes, Strings, Text, Types}
+use Rattle.rdata.specs.declared.rest.Rest.TheVariants.{Base64, GatewayKey, Hex, Location as OfLocation, MaybeString, Nothing, Params, Prefixes, QuotedText, SomeTypes, Strings, Text, Types}
 use Rattle.rdata.specs.declared.shape.LengthRule.{LengthRule}
 use Rattle.rdata.specs.declared.shape.LengthRule.TheVariants.{Any, Digest, Hash as HashLength}
 use Rattle.rdata.specs.declared.types.TypeRow.{TypeRow}
@@ -54,6 +54,7 @@ type_shapes =
     type_shape Rtype.rp (Name ∷ Name ∷ []) Nothing Any (codes "mailbox" ∷ codes "text name" ∷ []) ∷
     type_shape Rtype.afsdb (Number16 ∷ Name ∷ []) Nothing Any (codes "subtype" ∷ codes "host" ∷ []) ∷
     type_shape Rtype.x25 (PsdnAddress ∷ []) Nothing Any (codes "address" ∷ []) ∷
+    type_shape Rtype.isdn (String ∷ []) MaybeString Any (codes "address" ∷ codes "subaddress" ∷ []) ∷
     type_shape Rtype.rt (Number16 ∷ Name ∷ []) Nothing Any (codes "preference" ∷ codes "host" ∷ []) ∷
     type_shape Rtype.nsap_ptr (Name ∷ []) Nothing Any (codes "target" ∷ []) ∷
     type_shape Rtype.sig (SigType ∷ Algorithm ∷ Number8 ∷ Number32 ∷ Time ∷ Time ∷ Number16 ∷ Name ∷ []) Base64 Any (codes "type covered" ∷ codes "algorithm" ∷ codes "labels" ∷ codes "original TTL" ∷ codes "expiration" ∷ codes "inception" ∷ codes "key tag" ∷ codes "signer" ∷ codes "signature" ∷ []) ∷
@@ -62,12 +63,15 @@ type_shapes =
     type_shape Rtype.gpos (String ∷ String ∷ String ∷ []) Nothing Any (codes "longitude" ∷ codes "latitude" ∷ codes "altitude" ∷ []) ∷
     type_shape Rtype.aaaa (Ipv6 ∷ []) Nothing Any (codes "address" ∷ []) ∷
     type_shape Rtype.loc [] OfLocation Any (codes "location" ∷ []) ∷
+    type_shape Rtype.eid [] Hex Any (codes "endpoint" ∷ []) ∷
+    type_shape Rtype.nimloc [] Hex Any (codes "locator" ∷ []) ∷
     type_shape Rtype.srv (Number16 ∷ Number16 ∷ Number16 ∷ Name ∷ []) Nothing Any (codes "priority" ∷ codes "weight" ∷ codes "port" ∷ codes "target" ∷ []) ∷
     type_shape Rtype.naptr (Number16 ∷ Number16 ∷ String ∷ String ∷ String ∷ Name ∷ []) Nothing Any
     (codes "order" ∷ codes "preference" ∷ codes "flags" ∷ codes "services" ∷ codes "expression" ∷ codes "replacement" ∷ []) ∷
     type_shape Rtype.kx (Number16 ∷ Name ∷ []) Nothing Any (codes "preference" ∷ codes "exchanger" ∷ []) ∷
     type_shape Rtype.cert (CertificateType ∷ Number16 ∷ Algorithm ∷ []) Base64 Any (codes "type" ∷ codes "key tag" ∷ codes "algorithm" ∷ codes "certificate" ∷ []) ∷
     type_shape Rtype.dname (Name ∷ []) Nothing Any (codes "target" ∷ []) ∷
+    type_shape Rtype.sink (Number8 ∷ Number8 ∷ Number8 ∷ []) Base64 Any (codes "meaning" ∷ codes "coding" ∷ codes "subcoding" ∷ codes "data" ∷ []) ∷
     type_shape Rtype.apl [] Prefixes Any (codes "prefix" ∷ []) ∷
     type_shape Rtype.ds (Number16 ∷ Algorithm ∷ Number8 ∷ []) Hex (Digest Ds 3) (codes "key tag" ∷ codes "algorithm" ∷ codes "digest type" ∷ codes "digest" ∷ []) ∷
     type_shape Rtype.sshfp (Number8 ∷ Number8 ∷ []) Hex (Digest Sshfp 1) (codes "algorithm" ∷ codes "fingerprint type" ∷ codes "fingerprint" ∷ []) ∷
@@ -92,6 +96,7 @@ type_shapes =
     type_shape Rtype.zonemd (Number32 ∷ Number8 ∷ Number8 ∷ []) Hex (Digest Zonemd 5) (codes "serial" ∷ codes "scheme" ∷ codes "hash algorithm" ∷ codes "digest" ∷ []) ∷
     type_shape Rtype.svcb (Number16 ∷ Name ∷ []) Params Any (codes "priority" ∷ codes "target" ∷ codes "parameter" ∷ []) ∷
     type_shape Rtype.https (Number16 ∷ Name ∷ []) Params Any (codes "priority" ∷ codes "target" ∷ codes "parameter" ∷ []) ∷
+    type_shape Rtype.dsync (OfType ∷ SyncScheme ∷ Number16 ∷ Name ∷ []) Nothing Any (codes "type" ∷ codes "scheme" ∷ codes "port" ∷ codes "target" ∷ []) ∷
     type_shape Rtype.hhit [] Base64 Any (codes "data" ∷ []) ∷
     type_shape Rtype.brid [] Base64 Any (codes "data" ∷ []) ∷
     type_shape Rtype.spf [] Strings Any (codes "text" ∷ []) ∷

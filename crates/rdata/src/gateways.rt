@@ -23,7 +23,7 @@ use rdata_values::numbers::u8_from_text;
 pub const NAME: u8 = 3;
 
 /// Parses the next token as a field.
-fn parse_one<S: TokenSource, Octets: AsOctets, B: OctetsBuilder>(
+pub(crate) fn parse_one<S: TokenSource, Octets: AsOctets, B: OctetsBuilder>(
     field: Field,
     origin: Option<&Name<Octets>>,
     source: &mut S,

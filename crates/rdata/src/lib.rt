@@ -8,6 +8,7 @@ pub mod gateways;
 pub mod generic;
 pub mod laws;
 mod locations;
+mod maybe_strings;
 mod params;
 pub mod prefixes;
 pub mod print_laws;

@@ -10,6 +10,7 @@ ghost use Rattle.rdata.specs.TypeLists.{types_form};
 use crate::digits::parse_digits;
 use crate::gateways::parse_gateway_parts;
 use crate::locations::parse_loc;
+use crate::maybe_strings::parse_maybe_string;
 use crate::params::parse_service_params;
 use crate::prefixes::parse_prefixes;
 use crate::texts::{expect_no_token, parse_text};
@@ -27,6 +28,8 @@ pub enum Rest {
     Nothing,
     /// One or more character strings.
     Strings,
+    /// A character string, which may be omitted.
+    MaybeString,
     /// One or more octets in hexadecimal.
     Hex,
     /// One or more octets in base 64.
@@ -151,6 +154,7 @@ pub(crate) fn parse_parts<S: TokenSource, Octets: AsOctets, B: OctetsBuilder + A
         Rest::GatewayKey => parse_gateway_parts(before, origin, source, target),
         Rest::Nothing => in_field_after(before, expect_no_token(source, target)),
         Rest::Strings => in_field_after(before, parse_some_strings(origin, source, target)),
+        Rest::MaybeString => in_field_after(before, parse_maybe_string(origin, source, target)),
         Rest::Hex => in_field_after(before, parse_some_digits(DigitsKind::Hex, source, target)),
         Rest::Base64 => in_field_after(
             before,

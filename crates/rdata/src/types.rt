@@ -21,7 +21,7 @@ pub struct TypeRow(
 );
 
 /// The types, by code.
-pub static TYPES: [TypeRow; 66] = [
+pub static TYPES: [TypeRow; 71] = [
     // RFC 1035 section 3.4.1.
     TypeRow(
         RecordType::A.0,
@@ -158,6 +158,14 @@ pub static TYPES: [TypeRow; 66] = [
         LengthRule::Any,
         &["address"],
     ),
+    // RFC 1183 section 3.2.
+    TypeRow(
+        RecordType::ISDN.0,
+        &[Field::String],
+        Rest::MaybeString,
+        LengthRule::Any,
+        &["address", "subaddress"],
+    ),
     // RFC 1183 section 3.3.
     TypeRow(
         RecordType::RT.0,
@@ -241,6 +249,22 @@ pub static TYPES: [TypeRow; 66] = [
         LengthRule::Any,
         &["location"],
     ),
+    // IANA, by M. Patton for Nimrod.
+    TypeRow(
+        RecordType::EID.0,
+        &[],
+        Rest::Hex,
+        LengthRule::Any,
+        &["endpoint"],
+    ),
+    // IANA, by M. Patton for Nimrod.
+    TypeRow(
+        RecordType::NIMLOC.0,
+        &[],
+        Rest::Hex,
+        LengthRule::Any,
+        &["locator"],
+    ),
     // RFC 2782.
     TypeRow(
         RecordType::SRV.0,
@@ -299,6 +323,14 @@ pub static TYPES: [TypeRow; 66] = [
         Rest::Nothing,
         LengthRule::Any,
         &["target"],
+    ),
+    // Draft-eastlake-kitchen-sink.
+    TypeRow(
+        RecordType::SINK.0,
+        &[Field::Number8, Field::Number8, Field::Number8],
+        Rest::Base64,
+        LengthRule::Any,
+        &["meaning", "coding", "subcoding", "data"],
     ),
     // RFC 3123 section 4.
     TypeRow(
@@ -513,6 +545,19 @@ pub static TYPES: [TypeRow; 66] = [
         Rest::Params,
         LengthRule::Any,
         &["priority", "target", "parameter"],
+    ),
+    // RFC 9859 section 2.
+    TypeRow(
+        RecordType::DSYNC.0,
+        &[
+            Field::RecordType,
+            Field::SyncScheme,
+            Field::Number16,
+            Field::Name,
+        ],
+        Rest::Nothing,
+        LengthRule::Any,
+        &["type", "scheme", "port", "target"],
     ),
     // RFC 9886.
     TypeRow(

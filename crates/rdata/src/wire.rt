@@ -9,6 +9,7 @@ ghost use Rattle.rdata.specs.Wire.{BeginsWithFields};
 
 use crate::gateways::is_gateway_key;
 use crate::locations::is_other_version;
+use crate::maybe_strings::is_maybe_string;
 use crate::params::are_params;
 use crate::prefixes::{are_items, are_prefixes, has_other_family};
 use crate::rest::Rest;
@@ -72,6 +73,7 @@ pub(crate) fn is_rest(rest: Rest, octets: &[u8]) -> bool
     match rest {
         Rest::Nothing => octets.is_empty(),
         Rest::Strings => are_strings(octets) && !octets.is_empty(),
+        Rest::MaybeString => is_maybe_string(octets),
         Rest::Hex => !octets.is_empty(),
         Rest::Base64 => !octets.is_empty(),
         Rest::Types => are_types(octets),

@@ -11,4 +11,4 @@ returns-in-Err-clause-takes g c =
     let t = token_seen c.in-Some.token in
     let is = first_taken t (g.S.TokenSource.left c.args.source.now) c.in-Some.ensures in
     let why = item_refused g.B.OctetsBuilder.room t (drop 1 (g.S.TokenSource.left c.args.source.now)) (g.B.AsOctets.octets c.args.target.now) c.in-Err.why c.if-token.false c.in-Err.ensures.why in
-    rw c.at-in-Err.ensures (next_refused prefix_form.spells prefix_form.reason g.B.OctetsBuilder.room _ c.place-at.result _ t _ _ _ c.in-Err.why is c.place-at.ensures why c.in-Err.ensures.err)
+    rw c.at-in-Err.ensures (next_refused prefix_form.begins prefix_form.spells prefix_form.reason g.B.OctetsBuilder.room _ c.place-at.result _ t _ _ _ c.in-Err.why is c.place-at.ensures why c.in-Err.ensures.err)

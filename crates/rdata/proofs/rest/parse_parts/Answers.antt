@@ -3,6 +3,7 @@ use Rattle.std.specs.Option.{option_copied}
 use Rattle.rdata_tokens.specs.declared.kind.DigitsKind.TheVariants.{Hex as InHex, Base64 as InBase64}
 use Rattle.rdata.specs.Digits.{digits_form}
 use Rattle.rdata.specs.LocationRest.{location_form}
+use Rattle.rdata.specs.MaybeStrings.{maybe_string_form}
 use Rattle.rdata.specs.ParamsRest.{params_form}
 use Rattle.rdata.specs.PrefixLists.{prefixes_form}
 use Rattle.rdata.specs.RestKinds.{strings_form}
@@ -28,6 +29,13 @@ returns-in-Strings-clause-takes g c =
     let octets = g.B.AsOctets.octets in
     rw (c.in-Strings.is, c.in_field_after-in-Strings.ensures)
     (one_part g.B.OctetsBuilder.room (some_form (strings_form (option_copied c.args.origin))) c.args.before (g.S.TokenSource.end c.args.source.now).at (left c.args.source.now) (octets c.args.target.now) c.parse_some_strings.result (left c.parse_some_strings.new.source) (octets c.parse_some_strings.new.target) c.parse_some_strings.ensures.takes)
+
+pub returns-in-MaybeString-clause-takes : goal.returns-in-MaybeString-clause-takes
+returns-in-MaybeString-clause-takes g c =
+    let left = g.S.TokenSource.left in
+    let octets = g.B.AsOctets.octets in
+    rw (c.in-MaybeString.is, c.in_field_after-in-MaybeString.ensures)
+    (one_part g.B.OctetsBuilder.room maybe_string_form c.args.before (g.S.TokenSource.end c.args.source.now).at (left c.args.source.now) (octets c.args.target.now) c.parse_maybe_string.result (left c.parse_maybe_string.new.source) (octets c.parse_maybe_string.new.target) c.parse_maybe_string.ensures.takes)
 
 pub returns-in-Hex-clause-takes : goal.returns-in-Hex-clause-takes
 returns-in-Hex-clause-takes g c =
