@@ -328,7 +328,7 @@ module _ (O : Type 0) (text : List ℕ) (others : List (List ℕ)) (form : List 
       let fits = h.3 in (
         shown alike,
         none_binary text read.0 read.1 read.2,
-        inr (parts, last, spells_parts alike, some),
+        inr (parts, last, spells_parts alike, some, omega (arith, short, ap wire_length (labels_are alike))),
         record {
           labels = name ++ others;
           spelled = relative parts last others some (spells_parts alike) no_at refl (ap (λ l. l ++ others) (read.3 ∙ labels_are alike));

@@ -5,7 +5,7 @@ use Rattle.dns_lexer.specs.declared.pieces.Wrong.TheVariants.{Closing, OpenParen
 use Rattle.rdata_values.specs.Rtype as Rtype
 use Rattle.rdata_values.specs.Types.{type_rows}
 use Rattle.rdata_values.specs.declared.error.ErrorKind.{ErrorKind}
-use Rattle.rdata_values.specs.declared.error.ErrorKind.TheVariants.{ShortBuf, Syntax, EndOfEntry, TrailingToken, Quoted, QuotedName, NotQuoted, ExpectedNumber, NumberOverflow, ExpectedIpv4, ExpectedIpv6, ExpectedTtl, ExpectedInterval, ExpectedTime, UnknownType, UnknownClass, UnknownAlgorithm, UnknownCertificate, ExpectedEui48, ExpectedEui64, ExpectedLocator, ExpectedSalt, ExpectedPsdnAddress, BadEscape, LongString, BadTag, EmptyLabel, LongLabel, LongName, NoOrigin, ExpectedHex, UnevenHex, IllegalBase64, TrailingBase64, IncompleteBase64, IllegalBase32, ShortBase32, LongHash, ExpectedLatitude, ExpectedLongitude, ExpectedAltitude, ExpectedSize, ExpectedEnd, ExpectedPrefix, ExpectedGateway, UnknownGateway, QuotedParam, GluedParam, UnknownKey, UnexpectedValue, RepeatedKey, LongValue, RepeatedParam, ListString, ListEscape, ShortParams, ParamOrder, ParamValue, MissingParam, TypeZero, NotOfType, NoDataType, NoTextForm, WrongLength, TrailingArgument, NotSupported, UnknownDirective, NoOwner, RefusedOwner, NoTtl}
+use Rattle.rdata_values.specs.declared.error.ErrorKind.TheVariants.{ShortBuf, Syntax, EndOfEntry, TrailingToken, Quoted, QuotedName, NotQuoted, ExpectedNumber, NumberOverflow, ExpectedIpv4, ExpectedIpv6, ExpectedTtl, ExpectedInterval, ExpectedTime, UnknownType, UnknownClass, UnknownAlgorithm, UnknownCertificate, UnknownScheme, ExpectedEui48, ExpectedEui64, ExpectedLocator, ExpectedSalt, ExpectedPsdnAddress, BadEscape, LongString, BadTag, EmptyLabel, LongLabel, LongName, NoOrigin, ExpectedHex, UnevenHex, IllegalBase64, TrailingBase64, IncompleteBase64, IllegalBase32, ShortBase32, LongHash, ExpectedLatitude, ExpectedLongitude, ExpectedAltitude, ExpectedSize, ExpectedEnd, ExpectedPrefix, ExpectedGateway, UnknownGateway, QuotedParam, GluedParam, UnknownKey, UnexpectedValue, RepeatedKey, LongValue, RepeatedParam, ListString, ListEscape, ShortParams, ParamOrder, ParamValue, MissingParam, TypeZero, NotOfType, NoDataType, NoTextForm, WrongLength, TrailingArgument, NotSupported, UnknownDirective, NoOwner, RefusedOwner, NoTtl}
 use Rattle.error_texts.specs.Contents.{digest_text, high_escape_text, long_string_text}
 use Rattle.error_texts.specs.Digests.{digest_name, digest_place}
 use Rattle.error_texts.specs.Errors.{error_type_prefix, kind_text, part_prefix}
@@ -35,6 +35,7 @@ texts =
     (UnknownClass, codes "unknown class") ∷
     (UnknownAlgorithm, codes "unknown algorithm") ∷
     (UnknownCertificate, codes "unknown certificate type") ∷
+    (UnknownScheme, codes "unknown scheme") ∷
     (ExpectedEui48, codes "expected EUI-48") ∷
     (ExpectedEui64, codes "expected EUI-64") ∷
     (ExpectedLocator, codes "expected locator") ∷

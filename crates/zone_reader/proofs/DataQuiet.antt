@@ -8,15 +8,17 @@ use Rattle.rdata_values.specs.declared.error.ErrorKind.{ErrorKind}
 use Rattle.rdata_values.specs.declared.error.ErrorKind.TheVariants.{IllegalBase32, LongHash, NoDataType, NotOfType, NoTextForm, ShortBase32, Syntax, WrongLength}
 use Rattle.rdata_values.specs.declared.types.RecordType.{RecordType}
 use Rattle.rdata_tokens.specs.Hashes.{hash_refusal}
+use Rattle.rdata_tokens.specs.Spelled.{unfinished}
 use Rattle.rdata_tokens.specs.declared.kind.DigitsKind.{DigitsKind}
 use Rattle.rdata_tokens.specs.declared.kind.DigitsKind.TheVariants.{Hex as InHex, Base64 as InBase64}
 use Rattle.rdata_fields.specs.Fields.{field_form}
 use Rattle.rdata_fields.specs.Parsing.{RefusesNext, ParsesAllFields}
 use Rattle.rdata_fields.specs.Words.{NumberReason}
 use Rattle.rdata_fields.specs.declared.field.Field.{Field}
-use Rattle.rdata_fields.specs.declared.field.Field.TheVariants.{Number8, Number16, Number32, Interval, Ipv4, Ipv6, RecordType as OfRecordType, SigType, Algorithm, CertificateType, Eui48, Eui64, Time, Locator, String, PsdnAddress, Tag, Salt, Hash, Name}
+use Rattle.rdata_fields.specs.declared.field.Field.TheVariants.{Number8, Number16, Number32, Interval, Ipv4, Ipv6, RecordType as OfRecordType, SigType, Algorithm, CertificateType, SyncScheme, Eui48, Eui64, Time, Locator, String, PsdnAddress, Tag, Salt, Hash, Name}
 use Rattle.rdata_fields.specs.declared.record_error.RecordError.{RecordError}
-use Rattle.rdata_svcb.specs.ParamRefusals.{NewReason, ParamReason, ParamsReason, ValueReason, WordFault}
+use Rattle.rdata_svcb.specs.ListItems.{ItemReason, OctetFault, SpecialFault}
+use Rattle.rdata_svcb.specs.ParamRefusals.{NewReason, NextKeyReason, ParamReason, ParamsReason, ValueReason, WordFault}
 use Rattle.rdata_svcb.specs.declared.keys.ValueKind.{ValueKind}
 use Rattle.rdata_svcb.specs.declared.keys.ValueKind.TheVariants.{Keys, Strings as OfStrings, Nothing as OfNothing, Port, Ipv4 as OfIpv4, Digits, Ipv6 as OfIpv6, Octets}
 use Rattle.rdata.specs.ByType.{RefusesData, RefusesGeneric, RefusesType, shape_of_code}
@@ -25,6 +27,7 @@ use Rattle.rdata.specs.Digits.{IsDigitsFault, JoinedReason, digits_form}
 use Rattle.rdata.specs.GatewayKeys.{GatewayTypeReason, gateway_form, gateway_key_form, gateway_type_form, key_form, octet_form}
 use Rattle.rdata.specs.Generic.{GenericReason, WhyNoCount, generic_form}
 use Rattle.rdata.specs.PrefixLists.{prefix_form}
+use Rattle.rdata.specs.MaybeStrings.{MaybeStringReason}
 use Rattle.rdata.specs.RestKinds.{StringTokensReason, rest_form}
 use Rattle.rdata.specs.Rests.{AfterSomeTokens, RefusesAs, RefusesRest, RestForm}
 use Rattle.rdata.specs.Texts.{TextReason}
@@ -32,7 +35,7 @@ use Rattle.rdata.specs.TokenForms.{ReasonAfter, ThenReason, TokenForm, then_form
 use Rattle.rdata.specs.TypeLists.{TypesReason}
 use Rattle.rdata.specs.Types.{TypeShape}
 use Rattle.rdata.specs.declared.rest.Rest.{Rest}
-use Rattle.rdata.specs.declared.rest.Rest.TheVariants.{Nothing, Strings, Hex, Base64, Types, SomeTypes, Text, QuotedText, Location, Prefixes, GatewayKey, Params}
+use Rattle.rdata.specs.declared.rest.Rest.TheVariants.{Nothing, Strings, MaybeString, Hex, Base64, Types, SomeTypes, Text, QuotedText, Location, Prefixes, GatewayKey, Params}
 use Rattle.rdata.specs.declared.shape.Shape.{Shape}
 
 module _ (w : Wrong) where
@@ -71,6 +74,8 @@ module _ (w : Wrong) where
   field_quiet origin Algorithm quoted text (inr h) = let e = h.1 in cc
   field_quiet origin CertificateType quoted text (inl h) = let e = h.0 in cc
   field_quiet origin CertificateType quoted text (inr h) = let e = h.1 in cc
+  field_quiet origin SyncScheme quoted text (inl h) = let e = h.0 in cc
+  field_quiet origin SyncScheme quoted text (inr h) = let e = h.1 in cc
   field_quiet origin Eui48 quoted text (inl h) = let e = h.0 in cc
   field_quiet origin Eui48 quoted text (inr h) = let e = h.1 in cc
   field_quiet origin Eui64 quoted text (inl h) = let e = h.0 in cc
@@ -106,36 +111,45 @@ module _ (w : Wrong) where
   behind_quiet : (Why : List TokenSeen → List TokenSeen → ErrorKind → Type 0) → Quiet Why → Quiet (AfterSomeTokens Why)
   behind_quiet Why quiet tokens left h = quiet h.0 left h.2
 
-  strings_quiet : Quiet StringTokensReason
-  strings_quiet before [] h = h
-  strings_quiet before (t ∷ ts) h = h
+  strings_quiet : (origin : Option (List (List ℕ))) → Quiet (StringTokensReason origin)
+  strings_quiet origin before [] h = h
+  strings_quiet origin before (t ∷ ts) h = h.1
+
+  maybe_string_quiet : Quiet MaybeStringReason
+  maybe_string_quiet [] left h = h
+  maybe_string_quiet (t ∷ ts) left (inl h) = h.1
+  maybe_string_quiet (t ∷ ts) left (inr h) = let e = h.1 in cc
 
   digits_quiet : (kind : DigitsKind) (text : List ℕ) → IsDigitsFault kind text (Syntax w) → ⊥
-  digits_quiet InHex text (inl h) = let e = h.0 in cc
-  digits_quiet InBase64 text (inl h) = let e = h.0 in cc
-  digits_quiet InHex text (inr (inl h, goes)) = let e = h.0 in cc
-  digits_quiet InBase64 text (inr (inl h, goes)) = let e = h.0 in cc
-  digits_quiet kind text (inr (inr h, goes)) = let e = h.0 in cc
+  digits_quiet InHex text (inl h, goes) = let e = h.0 in cc
+  digits_quiet InBase64 text (inl h, goes) = let e = h.0 in cc
+  digits_quiet kind text (inr h, goes) = let e = h.0 in cc
+
+  unfinished_quiet : (kind : DigitsKind) → Syntax w ≡ unfinished kind → ⊥
+  unfinished_quiet InHex h = cc
+  unfinished_quiet InBase64 h = cc
 
   joined_quiet : (kind : DigitsKind) → Quiet (JoinedReason kind)
-  joined_quiet kind before [] h = digits_quiet kind _ h
+  joined_quiet kind before [] h = unfinished_quiet kind h
   joined_quiet kind before (t ∷ ts) (inl h) = let e = h.0 in cc
   joined_quiet kind before (t ∷ ts) (inr h) = digits_quiet kind _ h.1
 
   digits_form_quiet : (kind : DigitsKind) → Quiet (digits_form kind).reason
-  digits_form_quiet kind tokens left h = joined_quiet kind h.0 left h.2.1
+  digits_form_quiet kind tokens left h = joined_quiet kind h.0 left h.2.2
 
   types_quiet : Quiet TypesReason
   types_quiet before [] h = h
-  types_quiet before (t ∷ ts) (inl h) = let e = h.0 in cc
-  types_quiet before (t ∷ ts) (inr (q, inl h)) = let e = h.0 in cc
-  types_quiet before (t ∷ ts) (inr (q, inr h)) = let e = h.0 in cc
+  types_quiet before (t ∷ ts) (named, inl h) = let e = h.0 in cc
+  types_quiet before (t ∷ ts) (named, inr (q, inl h)) = let e = h.0 in cc
+  types_quiet before (t ∷ ts) (named, inr (q, inr h)) = let e = h.0 in cc
 
   text_quiet : (wants : Bool) → Quiet (TextReason wants)
   text_quiet wants [] [] h = cc
   text_quiet wants [] (t ∷ ts) (inl h) = let e = h.0 in cc
   text_quiet wants [] (t ∷ ts) (inr h) = let e = h.0 in cc
-  text_quiet wants (t ∷ ts) left h = let e = h.1 in cc
+  text_quiet wants (t ∷ []) [] h = h
+  text_quiet wants (t ∷ []) (u ∷ us) h = let e = h.0 in cc
+  text_quiet wants (t ∷ u ∷ ts) left h = h
 
   prefix_quiet : Quiet (ReasonAfter prefix_form)
   prefix_quiet before [] h = h
@@ -178,46 +192,61 @@ module _ (w : Wrong) where
 
   -- ---- service parameters
 
+  next_key_quiet : (keys : List ℕ) (item : List ℕ) → NextKeyReason keys item (Syntax w) → ⊥
+  next_key_quiet keys item (inl h) = let e = h.0 in cc
+  next_key_quiet keys item (inr h) = let e = h.0 in cc
+
+  special_quiet : (text : List ℕ) → SpecialFault text (Syntax w) → ⊥
+  special_quiet text (inl h) = let e = h.0 in cc
+  special_quiet text (inr h) = let e = h.0 in cc
+
+  item_octet_quiet : (text : List ℕ) → OctetFault text (Syntax w) → ⊥
+  item_octet_quiet text (inl h) = let e = h.0 in cc
+  item_octet_quiet text (inr h) = special_quiet h.0 h.2
+
+  item_quiet : (item rest : List ℕ) → ItemReason item rest (Syntax w) → ⊥
+  item_quiet item rest (inl h) = let e = h.0 in cc
+  item_quiet item rest (inr h) = item_octet_quiet rest h.1
+
   value_quiet : (kind : ValueKind) (text : List ℕ) → ValueReason kind text (Syntax w) → ⊥
-  value_quiet Keys text (inl h) = cc
-  value_quiet Keys text (inr h) = cc
-  value_quiet OfStrings text (inl h) = cc
-  value_quiet OfStrings text (inr (inl h)) = cc
-  value_quiet OfStrings text (inr (inr h)) = cc
-  value_quiet OfNothing text h = cc
+  value_quiet Keys text h = next_key_quiet h.0 h.1 h.4
+  value_quiet OfStrings text h = item_quiet h.4.0 h.4.1 h.4.3
+  value_quiet OfNothing text h = let e = h.0 in cc
   value_quiet Port text h = number_quiet (2 ^ 16) text h
-  value_quiet OfIpv4 text h = cc
-  value_quiet Digits text (inl h) = cc
-  value_quiet Digits text (inr (inl h)) = cc
-  value_quiet Digits text (inr (inr h)) = cc
-  value_quiet OfIpv6 text h = cc
+  value_quiet OfIpv4 text h = let e = h.3 in cc
+  value_quiet Digits text (inl h) = let e = h.0 in cc
+  value_quiet Digits text (inr (inl i, x)) = let e = i.0 in cc
+  value_quiet Digits text (inr (inr t, x)) = let e = t.0 in cc
+  value_quiet OfIpv6 text h = let e = h.3 in cc
   value_quiet Octets text h = let e = h.0 in cc
 
-  new_quiet : (kind : ValueKind) (text : List ℕ) → NewReason kind text (Syntax w) → ⊥
-  new_quiet kind text (inl h) = value_quiet kind text h
-  new_quiet kind text (inr (inl h)) = cc
-  new_quiet kind text (inr (inr h)) = cc
+  new_quiet : (params : List (ℕ × List ℕ)) (key : ℕ) (kind : ValueKind) (text : List ℕ) → NewReason params key kind text (Syntax w) → ⊥
+  new_quiet params key kind text (inl h) = value_quiet kind text h
+  new_quiet params key kind text (inr (v, s, inl h)) = let e = h.0 in cc
+  new_quiet params key kind text (inr (v, s, inr h)) = let e = h.0 in cc
 
   begin_quiet : (t : TokenSeen) → WordFault t (Syntax w) → ⊥
   begin_quiet t (inl h) = let e = h.0 in cc
   begin_quiet t (inr (inl h)) = let e = h.0 in cc
   begin_quiet t (inr (inr h)) = let e = h.0 in cc
 
-  param_quiet : (left : List TokenSeen) → ParamReason left (Syntax w) → ⊥
-  param_quiet [] h = new_quiet h.0 h.1 h.2
-  param_quiet (t ∷ ts) (inl h) = begin_quiet t h
-  param_quiet (t ∷ ts) (inr h) = new_quiet h.0 h.1 h.2
+  param_quiet : (params : List (ℕ × List ℕ)) (tokens left : List TokenSeen) → ParamReason params tokens left (Syntax w) → ⊥
+  param_quiet params [] left (inl h) = h.1
+  param_quiet params (t ∷ ts) left (inl h) = begin_quiet t h.1
+  param_quiet params [] left (inr h) = new_quiet params h.0 h.1 h.2 h.5
+  param_quiet params (t ∷ ts) left (inr h) = new_quiet params h.0 h.1 h.2 h.5
 
-  params_quiet : Quiet (λ tokens left e. ParamsReason left e)
-  params_quiet tokens left (inl h) = param_quiet left h
-  params_quiet tokens left (inr h) = h.1.1
+  params_quiet : Quiet ParamsReason
+  params_quiet tokens left (params, rest, read, inl p) = param_quiet params rest left p
+  params_quiet tokens left (params, rest, read, inr f) = f.2
 
   -- ---- each kind
 
   pub rest_quiet : (origin : Option (List (List ℕ))) (r : Rest) → Quiet (rest_form origin r).reason
-  rest_quiet origin Nothing tokens left h = let e = h.1 in cc
-  rest_quiet origin Strings tokens left (inl h) = behind_quiet StringTokensReason strings_quiet tokens left h
+  rest_quiet origin Nothing tokens left h = let e = h.2 in cc
+  rest_quiet origin Strings tokens left (inl h) = behind_quiet (StringTokensReason origin) (strings_quiet origin) tokens left h
   rest_quiet origin Strings tokens left (inr h) = let e = h.0 in cc
+  rest_quiet origin MaybeString tokens left h = maybe_string_quiet tokens left h
   rest_quiet origin Hex tokens left (inl h) = digits_form_quiet InHex tokens left h
   rest_quiet origin Hex tokens left (inr h) = let e = h.0 in cc
   rest_quiet origin Base64 tokens left (inl h) = digits_form_quiet InBase64 tokens left h
@@ -243,7 +272,7 @@ module _ (w : Wrong) where
   generic_quiet : Quiet GenericReason
   generic_quiet [] left h = h
   generic_quiet (mark ∷ tokens) left (inl h) = count_quiet tokens h.1
-  generic_quiet (mark ∷ tokens) left (inr (count, digits, is, inl h)) = digits_form_quiet InHex digits left h
+  generic_quiet (mark ∷ tokens) left (inr (count, digits, is, inl h)) = digits_form_quiet InHex digits left h.1
   generic_quiet (mark ∷ tokens) left (inr (count, digits, is, inr (other, none))) = not_length _ _ other.5
 
   -- ---- data

@@ -14,6 +14,7 @@ use Rattle.rdata_tokens.proofs.NameFronts.{name_front_plain}
 use Rattle.rdata_fields.specs.Parsing.{SpellsField, RefusesNext, ParsesField}
 use Rattle.rdata_fields.specs.declared.field.Field.TheVariants.{Name as OfName}
 use Rattle.rdata_fields.specs.declared.record_error.RecordError.{RecordError}
+use Rattle.rdata_fields.proofs.FormLaws.{fields_begun}
 use Rattle.rdata_values.specs.declared.error.ErrorKind.{ErrorKind}
 use Rattle.zone_reader.specs.Past.{NamedBy}
 use Rattle.zone_reader.specs.Learning.{ParsesName}
@@ -54,7 +55,7 @@ name_is_made origin tokens left octets r e h makes is =
 
 pub no_name : (origin : Option (List (List ℕ))) (tokens : List TokenSeen) (why : ErrorKind) → RefusesNext origin (exactly 255) OfName tokens [] why → NamedBy origin (slice_get tokens 0) Rejected
 no_name origin [] why h = tt
-no_name origin (t ∷ tokens) why (inl h) = λ octets spelled. omega (arith, h.1 octets spelled, name_short origin t.text octets spelled.1)
+no_name origin (t ∷ tokens) why (inl h) = λ octets spelled. omega (arith, h.1.2, fields_begun origin OfName t.is_quoted t.text h.1.0 octets h.1.1 spelled, name_short origin t.text octets spelled.1)
 no_name origin (t ∷ tokens) why (inr h) = h.1
 
 pub name_refused : (origin : Option (List (List ℕ))) (end : ℕ) (tokens left : List TokenSeen) (old new : List ℕ) (r : RecordError) → old ≡ [] → ParsesField origin (exactly 255) OfName end tokens old (Err r) left new

@@ -1,5 +1,5 @@
 -- Records with all their parts are read as they are written.
-use Rattle.std.proofs.Common.{ℕ, ◌≡◌, ◌≤◌, ◌+◌, false, List, [], ◌∷◌, ◌++◌, length, Option, Some, None, Result, Ok, Err, refl, sym, subst, ap, ◌∙◌, arith, inl, inr}
+use Rattle.std.proofs.Common.{ℕ, ◌≡◌, ◌≤◌, ◌<◌, ◌+◌, false, List, [], ◌∷◌, ◌++◌, length, Option, Some, None, Result, Ok, Err, refl, sym, subst, ap, ◌∙◌, arith, inl, inr}
 use Rattle.std.specs.Prelude.{◌⊎◌}
 use Rattle.dns_octets.specs.Room.{Room}
 use Rattle.rdata_tokens.specs.declared.kind.DigitsKind.TheVariants.{Hex}
@@ -11,7 +11,7 @@ use Rattle.rdata_fields.specs.Parsing.{SpellsField, SpellsFields}
 use Rattle.rdata_fields.specs.declared.field.Field.TheVariants.{Name as OfName}
 use Rattle.rdata.specs.ByType.{HasShape, ReadsType, RefusesData, RefusesGeneric, SpellsGenericData, SpellsTypeData, shape_of_code}
 use Rattle.rdata.specs.Data.{HasLength, IsDataOf, SpellsData}
-use Rattle.rdata.specs.Generic.{BeginsGeneric, SpellsGeneric}
+use Rattle.rdata.specs.Generic.{BeginsGeneric, ExceedsGeneric, SpellsGeneric}
 use Rattle.rdata.specs.RestKinds.{rest_form}
 use Rattle.rdata.specs.Types.{TypeShape}
 use Rattle.rdata_fields.specs.declared.record_error.RecordError.{RecordError}
@@ -19,7 +19,7 @@ use Rattle.rdata_values.specs.declared.classes.Class.{Class}
 use Rattle.rdata_values.specs.declared.types.RecordType.{RecordType}
 use Rattle.rdata.specs.declared.shape.Shape.{Shape}
 use Rattle.rdata.proofs.DataForms.{data_are_spelled}
-use Rattle.rdata.proofs.Joinings.{joined_once}
+use Rattle.rdata.proofs.Joinings.{digits_exceeded, joined_once}
 use Rattle.zone_reader.specs.EntryMeanings.{says_record}
 use Rattle.zone_reader.specs.declared.header.RecordHeader.{RecordHeader}
 use Rattle.zone_reader.proofs.EntryLaws.{entries_say_once}
@@ -80,9 +80,14 @@ module _ (origin : Option (List (List ℕ))) (tokens : List TokenSeen) where
 
 -- ---- and they are not rejected if they surely fit
 
+generic_exceeded : (room : Room) (tokens left : List TokenSeen) (old octets : List ℕ) → ExceedsGeneric room tokens left old → SpellsGeneric tokens octets → room.fits < length old + length octets
+generic_exceeded room [] left old octets h s = absurd h
+generic_exceeded room (mark ∷ []) left old octets h s = absurd h
+generic_exceeded room (mark ∷ count ∷ digits) left old octets h s = digits_exceeded Hex room digits left old octets h.2 s.2
+
 module _ (origin : Option (List (List ℕ))) (room : Room) (rtype : RecordType) (end : ℕ) (tokens : List TokenSeen) (octets old : List ℕ) (fits : length old + length octets ≤ room.fits) (r : RecordError) (left : List TokenSeen) (new : List ℕ) where
   generic_taken : (found : Option TypeShape) → SpellsGenericData found tokens octets → RefusesGeneric found room end tokens old r left new → ⊥
-  generic_taken found h (inl k) = elim k.why [ inl lacks ↦ omega (arith, fits, lacks.1 octets h.0) | inr none ↦ none.1 octets h.0 ]
+  generic_taken found h (inl k) = elim k.why [ inl lacks ↦ (let over = generic_exceeded room tokens left old octets lacks.1 h.0 in omega (arith, fits, over)) | inr none ↦ none.1 octets h.0 ]
   generic_taken found h (inr k) =
       let gained = k.2 in
       let other = gained.1 in

@@ -12,7 +12,7 @@ use Rattle.std.proofs.lemmas.Fmt.{decimal_is_IsNumeral}
 use Rattle.std.proofs.lemmas.List.Elements.{All-head, All-tail}
 use Rattle.std.proofs.NetLemmas.Alphabet.{IsDigitOrDot, IsHexOrColon, All-ipv4_text, All-hex_groups_text}
 use Rattle.std.proofs.NetLemmas.Texts.{AllSegments}
-use Rattle.dns_codec.specs.Base.{base64}
+use Rattle.dns_codec.specs.Base.{base16, base64}
 use Rattle.rdata_tokens.proofs.Spelling.{size64}
 use Rattle.rdata_fields.specs.Fields.{field_form}
 use Rattle.rdata_fields.specs.declared.field.Field.{Field}
@@ -43,8 +43,9 @@ use Rattle.rdata.specs.Rests.{PrintedToken, ArePrinted}
 use Rattle.rdata.specs.Types.{TypeShape, type_shapes}
 use Rattle.rdata.specs.Wire.{BeginsWithFields}
 use Rattle.rdata.specs.declared.rest.Rest.{Rest}
-use Rattle.rdata.specs.declared.rest.Rest.TheVariants.{Strings, Base64, Location as OfLocation, Prefixes}
+use Rattle.rdata.specs.declared.rest.Rest.TheVariants.{Strings, Hex, Base64, Location as OfLocation, Prefixes}
 use Rattle.rdata.proofs.LocationLemmas.{location_at_is}
+use Rattle.rdata.proofs.PlainWords.{ArePlain, encoded16_word}
 use Rattle.rdata.proofs.PrintedStrings.{quoted_token}
 use Rattle.rdata.proofs.Sizes.{field_sized}
 
@@ -244,6 +245,7 @@ field_unmarked f form shown is m = absurd (true≢false (sym shown))
 
 abbrev rest_shows_no_mark : Rest → Bool
 rest_shows_no_mark Strings = true
+rest_shows_no_mark Hex = true
 rest_shows_no_mark Base64 = true
 rest_shows_no_mark OfLocation = true
 rest_shows_no_mark Prefixes = true
@@ -256,6 +258,10 @@ strings_unmarked (s ∷ ss) m = true≢false m.0
 digits_unmarked : (octets : List ℕ) → BeginsMarked (printed_digits base64 octets) → ⊥
 digits_unmarked [] m = m
 digits_unmarked (o ∷ os) m = omega (arith, size64 (o ∷ os), ap length m.1)
+
+hex_unmarked : (octets : List ℕ) → BeginsMarked (printed_digits base16 octets) → ⊥
+hex_unmarked [] m = m
+hex_unmarked (o ∷ os) m = true≢false (sym (subst ArePlain m.1 (encoded16_word (o ∷ os) (omega arith)).plain))
 
 location_unmarked : (l : Location) → IsPossible l → BeginsMarked (map (λ word. record { is_quoted = false; text = word }) (location_words l)) → ⊥
 location_unmarked l is m = no_decimal (angle_from l.latitude / 3600000) (omega (arith, is.latitude.0, is.latitude.1)) m.1
@@ -273,6 +279,7 @@ prefixes_unmarked (o ∷ os) m = prefix_unmarked _ m.1
 
 rest_unmarked : (r : Rest) (octets : List ℕ) → rest_shows_no_mark r ≡ true → (rest_form None r).is_wire octets → BeginsMarked ((rest_form None r).printed octets) → ⊥
 rest_unmarked Strings octets shown is m = strings_unmarked (strings_in_octets octets) m
+rest_unmarked Hex octets shown is m = hex_unmarked octets m
 rest_unmarked Base64 octets shown is m = digits_unmarked octets m
 rest_unmarked OfLocation octets shown is m =
     location_unmarked is.0 is.1.0 (subst (λ l. BeginsMarked (map (λ word. record { is_quoted = false; text = word }) (location_words l))) (location_at_is octets is.0 is.1) m)

@@ -56,7 +56,7 @@ fn after_field(field: Field, octets: &[u8]) -> &[u8]
     ensures { result.now ≡ drop (field_size field octets.now) octets.now }
 {
     match field {
-        Field::Number8 | Field::Algorithm => after_count(octets, 1),
+        Field::Number8 | Field::Algorithm | Field::SyncScheme => after_count(octets, 1),
         Field::Number16 | Field::RecordType | Field::SigType | Field::CertificateType => {
             after_count(octets, 2)
         }

@@ -6,6 +6,7 @@ ghost use Rattle.rdata.specs.Digits.{digits_form};
 ghost use Rattle.rdata.specs.GatewayKeys.{gateway_form, gateway_key_form};
 ghost use Rattle.rdata.specs.Generic.{generic_form};
 ghost use Rattle.rdata.specs.LocationRest.{location_form};
+ghost use Rattle.rdata.specs.MaybeStrings.{printed_maybe_string};
 ghost use Rattle.rdata.specs.ParamsRest.{params_form};
 ghost use Rattle.rdata.specs.PrefixLists.{prefixes_form};
 ghost use Rattle.rdata.specs.Printing.{field_size, printed_data, printed_parts};
@@ -51,6 +52,19 @@ fn write_strings<F: FormatWriter>(octets: &[u8], p: &mut F) -> zonefile_fmt::Res
         rest = &rest[1 + count..];
     }
     Ok(())
+}
+
+/// Prints a character string between double quotes, or nothing if there are no octets.
+fn write_maybe_string<F: FormatWriter>(octets: &[u8], p: &mut F) -> zonefile_fmt::Result
+    ensures gives { PrintsTokens F.blocks F.step_gives p.old
+        (printed_maybe_string octets.now) result p.new }
+    ensures fails { FailsInTokens F.blocks F.step_gives F.step_fails p.old
+        (printed_maybe_string octets.now) result }
+{
+    if octets.is_empty() {
+        return Ok(());
+    }
+    p.write_token(QuotedOctets(&octets[1..]))
 }
 
 /// Prints octets in digits as one word, or as no word if there are none.
@@ -196,6 +210,7 @@ fn write_rest<F: FormatWriter>(rest: Rest, octets: &[u8], p: &mut F) -> zonefile
     match rest {
         Rest::Nothing => Ok(()),
         Rest::Strings => write_strings(octets, p),
+        Rest::MaybeString => write_maybe_string(octets, p),
         Rest::Hex => write_digits(DigitsKind::Hex, octets, p),
         Rest::Base64 => write_digits(DigitsKind::Base64, octets, p),
         Rest::Types | Rest::SomeTypes => write_types(octets, p),
