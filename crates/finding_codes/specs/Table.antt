@@ -3,7 +3,7 @@ use Rattle.std.specs.Prelude.{ℕ, List, [], ◌∷◌, codes, true, false, get_
 use denote.Enum.Declared.{tag_of}
 use Rattle.finding_codes.specs.contracts.code.Code.{the_type}
 use Rattle.finding_codes.specs.declared.code.Code.{Code}
-use Rattle.finding_codes.specs.declared.code.Code.TheVariants.{OpenQuote, OpenParenthesis, ClosingParenthesis, LoneReturn, BadEscape, Nul, ByteOrderMark, ControlZ, MaxEntry, Directive, Owner, Ttl, Class, RecordType, Data, Include, NoOwner, NoTtl, OtherClass, NoSoa, TwoSoas, NoNs, NsAddress, Cname, Dname, DsApex, WildcardNs, SoaNotApex, NsBesideDname, Nsec3Wildcard, BelowDname, Outside, MaxTtl, NoOrigin, HighOctet, ControlOctet, Crlf, NestedParentheses, LeadingParenthesis, AdjacentTokens, NoFinalNewline, RelativeOrigin, SoaMinimumTtl, IncludeTtl, MissingDot, GenerateDot, EmptyUri, TlsaLength, IpseckeyAlgorithm, OhttpValue, Glue, TargetCname, TargetMissing, HostName, Cds, TtlDiffers, Duplicate, NotAtApex, KeyProtocol, KeyAlgorithm, CnameTargetMissing, CnameLoop, TwoSpf, WeakDigest, SingleNs, Hidden, NoDnskey, Expired, ExpiresSoon, NotYetValid, RrsigTimes, RrsigSigner, RrsigLabels, OriginalTtl, RrsigTtl, Unsigned, NoKey, KeyMissing, RrsigKey, SignsNothing, OccludedDnssec, NoNsec, NsecNext, NsecTypes, DsWithoutNs, NoNsec3, Nsec3Next, Nsec3Types, Nsec3Owner, Nsec3Iterations, Nsec3Iterations50, Nsec3Iterations0, NsecTtl, CdsDelete, SpfType, NaptrRegexp, NaptrBoth, CaaTag, SoaMail, SoaTimers, ReverseName, WildcardInside, TargetAddress, TxtWords, CommentInData, Exception, UnusedAllow}
+use Rattle.finding_codes.specs.declared.code.Code.TheVariants.{OpenQuote, OpenParenthesis, ClosingParenthesis, LoneReturn, BadEscape, Nul, ByteOrderMark, ControlZ, MaxEntry, Directive, Owner, Ttl, Class, RecordType, Data, Include, NoOwner, NoTtl, OtherClass, NoSoa, TwoSoas, NoNs, NsAddress, Cname, Dname, DsApex, WildcardNs, SoaNotApex, NsBesideDname, Nsec3Wildcard, BelowDname, Outside, MaxTtl, NoOrigin, HighOctet, ControlOctet, Crlf, NestedParentheses, LeadingParenthesis, AdjacentTokens, NoFinalNewline, RelativeOrigin, SoaMinimumTtl, IncludeTtl, MissingDot, GenerateDot, EmptyUri, TlsaLength, IpseckeyAlgorithm, OhttpValue, Glue, TargetCname, TargetMissing, HostName, Cds, TtlDiffers, Duplicate, NotAtApex, KeyProtocol, KeyAlgorithm, CnameTargetMissing, CnameLoop, TwoSpf, WeakDigest, SingleNs, Hidden, NoDnskey, Expired, ExpiresSoon, NotYetValid, RrsigTimes, RrsigSigner, RrsigLabels, OriginalTtl, RrsigTtl, Unsigned, NoKey, KeyMissing, RrsigKey, SignsNothing, OccludedDnssec, NoNsec, NsecNext, NsecTypes, DsWithoutNs, NoNsec3, Nsec3Next, Nsec3Types, Nsec3Owner, Nsec3Iterations, Nsec3Iterations50, Nsec3Iterations0, NsecTtl, CdsDelete, SpfType, NaptrRegexp, NaptrBoth, CaaTag, SoaMail, SoaTimers, ReverseName, WildcardInside, TargetAddress, TxtWords, CommentInData, PtrDot, Exception, UnusedAllow}
 use Rattle.finding_codes.specs.declared.code.Scope.{Scope}
 use Rattle.finding_codes.specs.declared.code.Scope.TheVariants.{Text as OfText, Records as OfRecords, MaxTtl as OfTtl, Zone as OfZone, Signed as OfSigned}
 use Rattle.finding_codes.specs.declared.code.Severity.{Severity}
@@ -70,7 +70,7 @@ finding_rows =
     finding_row MaxEntry (codes "max-entry") Error OfText text_fault Whole [] ∷
     finding_row Directive (codes "directive") Error OfRecords none Whole [] ∷
     finding_row Owner (codes "owner") Error OfRecords none Whole [] ∷
-    finding_row Ttl (codes "ttl") Warning OfRecords none Whole (codes "time to live above 2147483647: read as 0") ∷
+    finding_row Ttl (codes "ttl") Warning OfRecords none Whole (codes "TTL above 2147483647: read as 0") ∷
     finding_row Class (codes "class") Error OfRecords none Whole [] ∷
     finding_row RecordType (codes "type") Error OfRecords none Whole [] ∷
     finding_row Data (codes "data") Error OfRecords none Whole [] ∷
@@ -78,20 +78,20 @@ finding_rows =
     finding_row NoOwner (codes "no-owner") Error OfRecords none Whole [] ∷
     finding_row NoTtl (codes "no-ttl") Error OfRecords none Whole [] ∷
     finding_row OtherClass (codes "other-class") Error OfRecords none Whole (codes "another class than the zone's") ∷
-    finding_row NoSoa (codes "no-soa") Error OfZone of_absence Whole (codes "no SOA at the zone's name") ∷
+    finding_row NoSoa (codes "no-soa") Error OfZone of_absence Whole (codes "no SOA at the apex") ∷
     finding_row TwoSoas (codes "two-soas") Error OfZone none Whole (codes "two SOAs that differ") ∷
-    finding_row NoNs (codes "no-ns") Error OfZone of_absence Whole (codes "no NS at the zone's name") ∷
+    finding_row NoNs (codes "no-ns") Error OfZone of_absence Whole (codes "no NS at the apex") ∷
     finding_row NsAddress (codes "ns-address") Error OfZone of_absence Target (codes "name server in the zone without an address") ∷
     finding_row Cname (codes "cname") Error OfZone none Whole (codes "CNAME beside other records") ∷
     finding_row Dname (codes "dname") Error OfZone none Whole (codes "two DNAMEs of one name") ∷
-    finding_row DsApex (codes "ds-apex") Error OfZone none Whole (codes "DS at the zone's name") ∷
+    finding_row DsApex (codes "ds-apex") Error OfZone none Whole (codes "DS at the apex") ∷
     finding_row WildcardNs (codes "wildcard-ns") Error OfZone none Whole (codes "NS of a wildcard") ∷
-    finding_row SoaNotApex (codes "soa-not-apex") Error OfZone none Whole (codes "SOA below the zone's name") ∷
+    finding_row SoaNotApex (codes "soa-not-apex") Error OfZone none Whole (codes "SOA below the apex") ∷
     finding_row NsBesideDname (codes "ns-beside-dname") Error OfZone none Whole (codes "DNAME beside an NS") ∷
     finding_row Nsec3Wildcard (codes "nsec3-wildcard") Error OfZone none Whole (codes "first label of an NSEC3 is not base 32 hex") ∷
     finding_row BelowDname (codes "below-dname") Error OfZone none Whole (codes "record below a DNAME") ∷
     finding_row Outside (codes "outside") Error OfZone none Whole (codes "record outside of the zone") ∷
-    finding_row MaxTtl (codes "max-ttl") Error OfTtl none Whole (codes "time to live above the greatest that is allowed") ∷
+    finding_row MaxTtl (codes "max-ttl") Error OfTtl none Whole (codes "TTL exceeds --max-ttl") ∷
     finding_row NoOrigin (codes "no-origin") Warning OfRecords none Whole (codes "relative name, and no origin: read below the root") ∷
     finding_row HighOctet (codes "high-octet") Warning OfText none Whole (codes "octet outside of ASCII") ∷
     finding_row ControlOctet (codes "control-octet") Warning OfText none Whole (codes "control octet") ∷
@@ -101,10 +101,10 @@ finding_rows =
     finding_row AdjacentTokens (codes "adjacent-tokens") Warning OfRecords none Whole (codes "no blank between two tokens") ∷
     finding_row NoFinalNewline (codes "no-final-newline") Warning OfText none Whole (codes "no line end at the end of the file") ∷
     finding_row RelativeOrigin (codes "relative-origin") Warning OfRecords none Whole (codes "relative name as origin") ∷
-    finding_row SoaMinimumTtl (codes "soa-minimum-ttl") Warning OfRecords none Whole (codes "minimum of the SOA is taken as time to live") ∷
+    finding_row SoaMinimumTtl (codes "soa-minimum-ttl") Warning OfRecords none Whole (codes "minimum of the SOA is used as TTL") ∷
     finding_row IncludeTtl (codes "include-ttl") Warning OfRecords none Whole (codes "$TTL of the included file stays in force") ∷
     finding_row MissingDot (codes "missing-dot") Warning OfRecords none Whole (codes "name ends like the origin: a dot at its end may be missing") ∷
-    finding_row GenerateDot (codes "generate-dot") Warning OfRecords none Whole (codes "name ends in a dot: nibbles of an even width end in one") ∷
+    finding_row GenerateDot (codes "generate-dot") Warning OfRecords none Whole (codes "nibbles of an even width end in a dot, so the name is absolute") ∷
     finding_row EmptyUri (codes "empty-uri") Warning OfRecords none Whole (codes "empty target") ∷
     finding_row TlsaLength (codes "tlsa-length") Warning OfRecords none Whole (codes "wrong number of octets for the matching type") ∷
     finding_row IpseckeyAlgorithm (codes "ipseckey-algorithm") Warning OfRecords none Whole (codes "algorithm 0: BIND 9.18 doesn't load it without a key, Knot 3.2 doesn't with one") ∷
@@ -114,9 +114,9 @@ finding_rows =
     finding_row TargetMissing (codes "target-missing") Warning OfZone of_absence Target (codes "target is not in the zone") ∷
     finding_row HostName (codes "host-name") Warning OfZone none Whole (codes "not a host name: letters, digits and hyphens only") ∷
     finding_row Cds (codes "cds") Warning OfZone of_absence Whole (codes "CDS or CDNSKEY without a DNSKEY") ∷
-    finding_row TtlDiffers (codes "ttl-differs") Warning OfZone none Whole (codes "another time to live than the set's") ∷
-    finding_row Duplicate (codes "duplicate") Warning OfZone none Whole (codes "record stands twice") ∷
-    finding_row NotAtApex (codes "not-at-apex") Warning OfZone none Whole (codes "type that belongs at the zone's name") ∷
+    finding_row TtlDiffers (codes "ttl-differs") Warning OfZone none Whole (codes "TTL is not that of the RRset") ∷
+    finding_row Duplicate (codes "duplicate") Warning OfZone none Whole (codes "duplicate record") ∷
+    finding_row NotAtApex (codes "not-at-apex") Warning OfZone none Whole (codes "type that belongs at the apex") ∷
     finding_row KeyProtocol (codes "key-protocol") Warning OfZone none Whole (codes "DNSKEY of another protocol than 3") ∷
     finding_row KeyAlgorithm (codes "key-algorithm") Warning OfZone none Whole (codes "algorithm 0 is reserved") ∷
     finding_row CnameTargetMissing (codes "cname-target-missing") Warning OfZone of_absence Target (codes "CNAME target has no records in the zone") ∷
@@ -125,15 +125,15 @@ finding_rows =
     finding_row WeakDigest (codes "weak-digest") Warning OfZone of_absence Whole (codes "SHA-1 is the only digest of this key") ∷
     finding_row SingleNs (codes "single-ns") Warning OfZone of_absence Whole (codes "zone has only one name server") ∷
     finding_row Hidden (codes "hidden") Warning OfZone none Whole (codes "hidden by a delegation") ∷
-    finding_row NoDnskey (codes "no-dnskey") Error OfSigned none Whole (codes "no DNSKEY at the zone's name: it is not signed") ∷
+    finding_row NoDnskey (codes "no-dnskey") Error OfSigned none Whole (codes "no DNSKEY at the apex: the zone is not signed") ∷
     finding_row Expired (codes "expired") Error OfSigned of_time Whole (codes "signature has expired") ∷
     finding_row ExpiresSoon (codes "expires-soon") Warning OfSigned of_time Whole (codes "signature expires soon") ∷
     finding_row NotYetValid (codes "not-yet-valid") Error OfSigned of_time Whole (codes "signature is not valid yet") ∷
     finding_row RrsigTimes (codes "rrsig-times") Error OfSigned none Whole (codes "signature ends before it begins") ∷
     finding_row RrsigSigner (codes "rrsig-signer") Error OfSigned none Whole (codes "signer is not the zone") ∷
-    finding_row RrsigLabels (codes "rrsig-labels") Error OfSigned none Whole (codes "labels are not as many as the owner's") ∷
-    finding_row OriginalTtl (codes "original-ttl") Error OfSigned none Whole (codes "original TTL is not the set's TTL") ∷
-    finding_row RrsigTtl (codes "rrsig-ttl") Warning OfSigned none Whole (codes "TTL of the signature is not the set's TTL") ∷
+    finding_row RrsigLabels (codes "rrsig-labels") Error OfSigned none Whole (codes "label count is not that of the owner") ∷
+    finding_row OriginalTtl (codes "original-ttl") Error OfSigned none Whole (codes "original TTL is not that of the RRset") ∷
+    finding_row RrsigTtl (codes "rrsig-ttl") Warning OfSigned none Whole (codes "TTL of the signature is not that of the RRset") ∷
     finding_row Unsigned (codes "unsigned") Error OfSigned of_absence Whole (codes "set without a signature") ∷
     finding_row NoKey (codes "no-key") Error OfSigned none Whole (codes "no signature of the set fits a DNSKEY of the zone") ∷
     finding_row KeyMissing (codes "key-missing") Warning OfSigned none Whole (codes "signature fits no DNSKEY of the zone") ∷
@@ -147,7 +147,7 @@ finding_rows =
     finding_row NoNsec3 (codes "no-nsec3") Error OfSigned of_absence Whole (codes "name, or empty name above it, without an NSEC3") ∷
     finding_row Nsec3Next (codes "nsec3-next") Error OfSigned of_absence Whole (codes "NSEC3 names another than the next hash") ∷
     finding_row Nsec3Types (codes "nsec3-types") Error OfSigned of_absence Whole (codes "NSEC3 of the name, or of an empty name above it, lists other types") ∷
-    finding_row Nsec3Owner (codes "nsec3-owner") Error OfSigned none Whole (codes "owner of the NSEC3 is not a hash one label below the zone's name") ∷
+    finding_row Nsec3Owner (codes "nsec3-owner") Error OfSigned none Whole (codes "owner of the NSEC3 is not a hash one label below the apex") ∷
     finding_row Nsec3Iterations (codes "nsec3-iterations") Error OfSigned none Whole (codes "more than 150 iterations: validators treat the zone as unsigned") ∷
     finding_row Nsec3Iterations50 (codes "nsec3-iterations-50") Warning OfSigned none Whole (codes "more than 50 iterations: newer validators treat the zone as unsigned") ∷
     finding_row Nsec3Iterations0 (codes "nsec3-iterations-0") Warning OfSigned none Whole (codes "NSEC3 has iterations: 0 is advised (RFC 9276)") ∷
@@ -164,6 +164,7 @@ finding_rows =
     finding_row TargetAddress (codes "target-address") Warning OfRecords none Target (codes "IPv4 address in place of a name") ∷
     finding_row TxtWords (codes "txt-words") Warning OfRecords none (Field 0) (codes "several strings without quotes, which are joined without blanks") ∷
     finding_row CommentInData (codes "comment-in-data") Warning OfRecords none Last (codes "a comment begins inside of this word: write the text in quotes") ∷
+    finding_row PtrDot (codes "ptr-dot") Warning OfRecords none Target (codes "target is in a reverse tree: write the host name with a final dot") ∷
     finding_row Exception (codes "exception") Error OfRecords none Whole [] ∷
     finding_row UnusedAllow (codes "unused-allow") Warning OfRecords none Whole [] ∷
     []

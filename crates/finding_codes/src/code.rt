@@ -282,6 +282,8 @@ pub enum Code {
     TxtWords,
     /// A comment begins inside of a word of a TXT, SPF or CAA.
     CommentInData,
+    /// The owner and the target of a PTR are in reverse trees, so the target lacks its final dot.
+    PtrDot,
     /// An exception in a comment is malformed, or names an unknown code.
     Exception,
     /// An exception excepts no finding.

@@ -13,6 +13,17 @@ pub struct Rule {
     pub way: u8,
 }
 
+/// A rule, as `rule!(CODE, WAY)`.
+#[macro_export]
+macro_rules! rule {
+    ($code:ident, $way:literal) => {
+        $crate::rule::Rule {
+            code: $crate::code::Code::$code,
+            way: $way,
+        }
+    };
+}
+
 /// Returns whether a way is that of a rule.
 fn is_way(rule: Rule, way: &Way) -> bool
     ensures { result ≡ is_way rule (way_seen way.now) }

@@ -126,7 +126,7 @@ macro_rules! way {
     };
 }
 
-static TABLE: [Row; 107] = [
+static TABLE: [Row; 108] = [
     row!(OpenQuote => "open-quote", Error, Text, TEXT_FAULT, WHOLE, ""),
     row!(OpenParenthesis => "open-parenthesis", Error, Text, TEXT_FAULT, WHOLE, ""),
     row!(ClosingParenthesis => "closing-parenthesis", Error, Text, TEXT_FAULT, WHOLE, ""),
@@ -138,7 +138,7 @@ static TABLE: [Row; 107] = [
     row!(MaxEntry => "max-entry", Error, Text, TEXT_FAULT, WHOLE, ""),
     row!(Directive => "directive", Error, Records, NONE, WHOLE, ""),
     row!(Owner => "owner", Error, Records, NONE, WHOLE, ""),
-    row!(Ttl => "ttl", Warning, Records, NONE, WHOLE, "time to live above 2147483647: read as 0"),
+    row!(Ttl => "ttl", Warning, Records, NONE, WHOLE, "TTL above 2147483647: read as 0"),
     row!(Class => "class", Error, Records, NONE, WHOLE, ""),
     row!(RecordType => "type", Error, Records, NONE, WHOLE, ""),
     row!(Data => "data", Error, Records, NONE, WHOLE, ""),
@@ -146,20 +146,20 @@ static TABLE: [Row; 107] = [
     row!(NoOwner => "no-owner", Error, Records, NONE, WHOLE, ""),
     row!(NoTtl => "no-ttl", Error, Records, NONE, WHOLE, ""),
     row!(OtherClass => "other-class", Error, Records, NONE, WHOLE, "another class than the zone's"),
-    row!(NoSoa => "no-soa", Error, Zone, ABSENCE, WHOLE, "no SOA at the zone's name"),
+    row!(NoSoa => "no-soa", Error, Zone, ABSENCE, WHOLE, "no SOA at the apex"),
     row!(TwoSoas => "two-soas", Error, Zone, NONE, WHOLE, "two SOAs that differ"),
-    row!(NoNs => "no-ns", Error, Zone, ABSENCE, WHOLE, "no NS at the zone's name"),
+    row!(NoNs => "no-ns", Error, Zone, ABSENCE, WHOLE, "no NS at the apex"),
     row!(NsAddress => "ns-address", Error, Zone, ABSENCE, TARGET, "name server in the zone without an address"),
     row!(Cname => "cname", Error, Zone, NONE, WHOLE, "CNAME beside other records"),
     row!(Dname => "dname", Error, Zone, NONE, WHOLE, "two DNAMEs of one name"),
-    row!(DsApex => "ds-apex", Error, Zone, NONE, WHOLE, "DS at the zone's name"),
+    row!(DsApex => "ds-apex", Error, Zone, NONE, WHOLE, "DS at the apex"),
     row!(WildcardNs => "wildcard-ns", Error, Zone, NONE, WHOLE, "NS of a wildcard"),
-    row!(SoaNotApex => "soa-not-apex", Error, Zone, NONE, WHOLE, "SOA below the zone's name"),
+    row!(SoaNotApex => "soa-not-apex", Error, Zone, NONE, WHOLE, "SOA below the apex"),
     row!(NsBesideDname => "ns-beside-dname", Error, Zone, NONE, WHOLE, "DNAME beside an NS"),
     row!(Nsec3Wildcard => "nsec3-wildcard", Error, Zone, NONE, WHOLE, "first label of an NSEC3 is not base 32 hex"),
     row!(BelowDname => "below-dname", Error, Zone, NONE, WHOLE, "record below a DNAME"),
     row!(Outside => "outside", Error, Zone, NONE, WHOLE, "record outside of the zone"),
-    row!(MaxTtl => "max-ttl", Error, MaxTtl, NONE, WHOLE, "time to live above the greatest that is allowed"),
+    row!(MaxTtl => "max-ttl", Error, MaxTtl, NONE, WHOLE, "TTL exceeds --max-ttl"),
     row!(NoOrigin => "no-origin", Warning, Records, NONE, WHOLE, "relative name, and no origin: read below the root"),
     row!(HighOctet => "high-octet", Warning, Text, NONE, WHOLE, "octet outside of ASCII"),
     row!(ControlOctet => "control-octet", Warning, Text, NONE, WHOLE, "control octet"),
@@ -169,10 +169,10 @@ static TABLE: [Row; 107] = [
     row!(AdjacentTokens => "adjacent-tokens", Warning, Records, NONE, WHOLE, "no blank between two tokens"),
     row!(NoFinalNewline => "no-final-newline", Warning, Text, NONE, WHOLE, "no line end at the end of the file"),
     row!(RelativeOrigin => "relative-origin", Warning, Records, NONE, WHOLE, "relative name as origin"),
-    row!(SoaMinimumTtl => "soa-minimum-ttl", Warning, Records, NONE, WHOLE, "minimum of the SOA is taken as time to live"),
+    row!(SoaMinimumTtl => "soa-minimum-ttl", Warning, Records, NONE, WHOLE, "minimum of the SOA is used as TTL"),
     row!(IncludeTtl => "include-ttl", Warning, Records, NONE, WHOLE, "$TTL of the included file stays in force"),
     row!(MissingDot => "missing-dot", Warning, Records, NONE, WHOLE, "name ends like the origin: a dot at its end may be missing"),
-    row!(GenerateDot => "generate-dot", Warning, Records, NONE, WHOLE, "name ends in a dot: nibbles of an even width end in one"),
+    row!(GenerateDot => "generate-dot", Warning, Records, NONE, WHOLE, "nibbles of an even width end in a dot, so the name is absolute"),
     row!(EmptyUri => "empty-uri", Warning, Records, NONE, WHOLE, "empty target"),
     row!(TlsaLength => "tlsa-length", Warning, Records, NONE, WHOLE, "wrong number of octets for the matching type"),
     row!(IpseckeyAlgorithm => "ipseckey-algorithm", Warning, Records, NONE, WHOLE, "algorithm 0: BIND 9.18 doesn't load it without a key, Knot 3.2 doesn't with one"),
@@ -182,9 +182,9 @@ static TABLE: [Row; 107] = [
     row!(TargetMissing => "target-missing", Warning, Zone, ABSENCE, TARGET, "target is not in the zone"),
     row!(HostName => "host-name", Warning, Zone, NONE, WHOLE, "not a host name: letters, digits and hyphens only"),
     row!(Cds => "cds", Warning, Zone, ABSENCE, WHOLE, "CDS or CDNSKEY without a DNSKEY"),
-    row!(TtlDiffers => "ttl-differs", Warning, Zone, NONE, WHOLE, "another time to live than the set's"),
-    row!(Duplicate => "duplicate", Warning, Zone, NONE, WHOLE, "record stands twice"),
-    row!(NotAtApex => "not-at-apex", Warning, Zone, NONE, WHOLE, "type that belongs at the zone's name"),
+    row!(TtlDiffers => "ttl-differs", Warning, Zone, NONE, WHOLE, "TTL is not that of the RRset"),
+    row!(Duplicate => "duplicate", Warning, Zone, NONE, WHOLE, "duplicate record"),
+    row!(NotAtApex => "not-at-apex", Warning, Zone, NONE, WHOLE, "type that belongs at the apex"),
     row!(KeyProtocol => "key-protocol", Warning, Zone, NONE, WHOLE, "DNSKEY of another protocol than 3"),
     row!(KeyAlgorithm => "key-algorithm", Warning, Zone, NONE, WHOLE, "algorithm 0 is reserved"),
     row!(CnameTargetMissing => "cname-target-missing", Warning, Zone, ABSENCE, TARGET, "CNAME target has no records in the zone"),
@@ -193,15 +193,15 @@ static TABLE: [Row; 107] = [
     row!(WeakDigest => "weak-digest", Warning, Zone, ABSENCE, WHOLE, "SHA-1 is the only digest of this key"),
     row!(SingleNs => "single-ns", Warning, Zone, ABSENCE, WHOLE, "zone has only one name server"),
     row!(Hidden => "hidden", Warning, Zone, NONE, WHOLE, "hidden by a delegation"),
-    row!(NoDnskey => "no-dnskey", Error, Signed, NONE, WHOLE, "no DNSKEY at the zone's name: it is not signed"),
+    row!(NoDnskey => "no-dnskey", Error, Signed, NONE, WHOLE, "no DNSKEY at the apex: the zone is not signed"),
     row!(Expired => "expired", Error, Signed, TIME, WHOLE, "signature has expired"),
     row!(ExpiresSoon => "expires-soon", Warning, Signed, TIME, WHOLE, "signature expires soon"),
     row!(NotYetValid => "not-yet-valid", Error, Signed, TIME, WHOLE, "signature is not valid yet"),
     row!(RrsigTimes => "rrsig-times", Error, Signed, NONE, WHOLE, "signature ends before it begins"),
     row!(RrsigSigner => "rrsig-signer", Error, Signed, NONE, WHOLE, "signer is not the zone"),
-    row!(RrsigLabels => "rrsig-labels", Error, Signed, NONE, WHOLE, "labels are not as many as the owner's"),
-    row!(OriginalTtl => "original-ttl", Error, Signed, NONE, WHOLE, "original TTL is not the set's TTL"),
-    row!(RrsigTtl => "rrsig-ttl", Warning, Signed, NONE, WHOLE, "TTL of the signature is not the set's TTL"),
+    row!(RrsigLabels => "rrsig-labels", Error, Signed, NONE, WHOLE, "label count is not that of the owner"),
+    row!(OriginalTtl => "original-ttl", Error, Signed, NONE, WHOLE, "original TTL is not that of the RRset"),
+    row!(RrsigTtl => "rrsig-ttl", Warning, Signed, NONE, WHOLE, "TTL of the signature is not that of the RRset"),
     row!(Unsigned => "unsigned", Error, Signed, ABSENCE, WHOLE, "set without a signature"),
     row!(NoKey => "no-key", Error, Signed, NONE, WHOLE, "no signature of the set fits a DNSKEY of the zone"),
     row!(KeyMissing => "key-missing", Warning, Signed, NONE, WHOLE, "signature fits no DNSKEY of the zone"),
@@ -215,7 +215,7 @@ static TABLE: [Row; 107] = [
     row!(NoNsec3 => "no-nsec3", Error, Signed, ABSENCE, WHOLE, "name, or empty name above it, without an NSEC3"),
     row!(Nsec3Next => "nsec3-next", Error, Signed, ABSENCE, WHOLE, "NSEC3 names another than the next hash"),
     row!(Nsec3Types => "nsec3-types", Error, Signed, ABSENCE, WHOLE, "NSEC3 of the name, or of an empty name above it, lists other types"),
-    row!(Nsec3Owner => "nsec3-owner", Error, Signed, NONE, WHOLE, "owner of the NSEC3 is not a hash one label below the zone's name"),
+    row!(Nsec3Owner => "nsec3-owner", Error, Signed, NONE, WHOLE, "owner of the NSEC3 is not a hash one label below the apex"),
     row!(Nsec3Iterations => "nsec3-iterations", Error, Signed, NONE, WHOLE, "more than 150 iterations: validators treat the zone as unsigned"),
     row!(Nsec3Iterations50 => "nsec3-iterations-50", Warning, Signed, NONE, WHOLE, "more than 50 iterations: newer validators treat the zone as unsigned"),
     row!(Nsec3Iterations0 => "nsec3-iterations-0", Warning, Signed, NONE, WHOLE, "NSEC3 has iterations: 0 is advised (RFC 9276)"),
@@ -232,6 +232,7 @@ static TABLE: [Row; 107] = [
     row!(TargetAddress => "target-address", Warning, Records, NONE, TARGET, "IPv4 address in place of a name"),
     row!(TxtWords => "txt-words", Warning, Records, NONE, FIELD_0, "several strings without quotes, which are joined without blanks"),
     row!(CommentInData => "comment-in-data", Warning, Records, NONE, LAST, "a comment begins inside of this word: write the text in quotes"),
+    row!(PtrDot => "ptr-dot", Warning, Records, NONE, TARGET, "target is in a reverse tree: write the host name with a final dot"),
     row!(Exception => "exception", Error, Records, NONE, WHOLE, ""),
     row!(UnusedAllow => "unused-allow", Warning, Records, NONE, WHOLE, ""),
 ];
@@ -272,7 +273,7 @@ pub fn ways() -> &'static [Way; 5]
 }
 
 /// Returns the rows of all codes, in their order.
-pub fn rows() -> &'static [Row; 107]
+pub fn rows() -> &'static [Row; 108]
     ensures { map row_seen result.now ≡ finding_rows }
 {
     &TABLE

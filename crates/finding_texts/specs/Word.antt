@@ -3,7 +3,7 @@ use Rattle.std.specs.Prelude.{◌≡◌, ℕ, ◌+◌, ◌/◌, ◌%◌, ◌↔�
 use Rattle.std.specs.List.{flat_map}
 use Rattle.dns_symbol.specs.Characters.{backslash}
 use Rattle.zone_format.specs.Place.{begins_character}
-use Rattle.zonetext_report.specs.Shown.{IsShowable, is_control}
+use Rattle.finding_formats.specs.Shown.{IsShowable, is_control}
 
 -- a backslash and three digits
 abbrev pub word_escape : ℕ → List ℕ

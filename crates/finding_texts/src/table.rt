@@ -114,6 +114,7 @@ pub fn summary_of(code: Code) -> &'static str {
         Code::TargetAddress => "The target of a record is the text of an IPv4 address",
         Code::TxtWords => "A TXT that begins with v= has several strings without quotes",
         Code::CommentInData => "A comment begins where a word of a TXT, SPF or CAA ends",
+        Code::PtrDot => "The owner and the target of a PTR are below in-addr.arpa or ip6.arpa",
         Code::Exception => "An exception in a comment is malformed, or names an unknown code",
         Code::UnusedAllow => "An exception in a comment excepts no finding",
     }
@@ -320,6 +321,8 @@ pub fn text_of(code: Code) -> &'static str {
             "Receivers join the strings without blanks (RFC 7208 section 3.3, RFC 6376 section 3.6.2.2). Write the text in quotes.",
         Code::CommentInData =>
             "The text from the semicolon on is a comment (RFC 1035 section 5.1). Write the text in quotes.",
+        Code::PtrDot =>
+            "The target is the name of a host (RFC 1035 section 3.5). Without a final dot the origin is appended to it. Names of services, with a label that begins with an underscore, are not reported (RFC 6763 section 4.1).",
         Code::Exception =>
             "It is written as '; zonetext: allow CODE, CODE' in a comment of the entry whose findings it excepts. A second semicolon begins a remark.",
         Code::UnusedAllow =>
@@ -456,6 +459,7 @@ pub fn example_of(code: Code) -> &'static str {
         Code::TargetAddress => "a MX 10 192.0.2.1",
         Code::TxtWords => "a TXT v=spf1 -all",
         Code::CommentInData => "a TXT v=DKIM1; p=abc",
+        Code::PtrDot => "$ORIGIN 2.0.192.in-addr.arpa.\n1 PTR host.example",
         Code::Exception => "a A 192.0.2.2 ; zonetext: allow tll",
         Code::UnusedAllow => "a A 192.0.2.2 ; zonetext: allow host-name",
     }

@@ -3,9 +3,9 @@ ghost use Rattle.std.specs.Prelude.{◌≡◌, ◌≤◌, ◌++◌, OnOk, length
 ghost use Rattle.std.specs.List.{flat_map};
 ghost use Rattle.finding_texts.specs.Word.{HasWord, shown_count, word_escape, word_octet};
 
+use finding_formats::shown::is_showable;
 use std::alloc::{AllocError, Allocator};
 use zone_format::place::begins_character;
-use zonetext_report::shown::is_showable;
 
 /// Greatest number of octets of a token that are shown.
 pub const MOST: usize = 40;
