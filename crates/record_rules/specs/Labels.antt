@@ -5,7 +5,7 @@ use Rattle.std.specs.Cmp.Lexicographic.{pointwise}
 use Rattle.std.specs.List.{list_any}
 use Rattle.dns_wire.specs.Order.{same_name}
 use Rattle.record_rules.specs.declared.labels.LabelTest.{LabelTest}
-use Rattle.record_rules.specs.declared.labels.LabelTest.TheVariants.{Asterisk, AtSign, Number, HexDigit}
+use Rattle.record_rules.specs.declared.labels.LabelTest.TheVariants.{Asterisk, AtSign, Underscore, Number, HexDigit}
 
 -- ---- octets
 
@@ -75,6 +75,11 @@ is_asterisk label = pointwise nat_eq label (42 ∷ [])
 abbrev pub has_at_sign : List ℕ → Bool
 has_at_sign label = list_any (λ o. o == 64) label
 
+-- a label that begins with `_`, as those of services do (RFC 6763 section 4.1)
+abbrev pub begins_underscore : List ℕ → Bool
+begins_underscore [] = false
+begins_underscore (octet ∷ octets) = octet == 95
+
 -- a label with a slash or a hyphen, as RFC 2317 section 4 divides a network, and as RFC 6763 section 11 names services
 abbrev pub has_slash_or_hyphen : List ℕ → Bool
 has_slash_or_hyphen label = list_any (λ o. o == 47 || o == 45) label
@@ -82,6 +87,7 @@ has_slash_or_hyphen label = list_any (λ o. o == 47 || o == 45) label
 abbrev pub passes_test : LabelTest → List ℕ → Bool
 passes_test Asterisk label = is_asterisk label
 passes_test AtSign label = has_at_sign label
+passes_test Underscore label = begins_underscore label
 passes_test Number label = is_octet_label label
 passes_test HexDigit label = is_nibble_label label
 

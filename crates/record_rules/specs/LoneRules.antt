@@ -7,13 +7,13 @@ use Rattle.std.specs.Option.{option_map_or}
 use Rattle.dns_octets.specs.Lowered.{same_lowered}
 use Rattle.dns_wire.specs.Order.{same_name}
 use Rattle.finding_codes.specs.declared.code.Code.{Code}
-use Rattle.finding_codes.specs.declared.code.Code.TheVariants.{SpfType, NaptrRegexp, NaptrBoth, CaaTag, SoaMail, SoaTimers, ReverseName, WildcardInside, TargetAddress, TxtWords, CommentInData}
+use Rattle.finding_codes.specs.declared.code.Code.TheVariants.{SpfType, NaptrRegexp, NaptrBoth, CaaTag, SoaMail, SoaTimers, ReverseName, WildcardInside, TargetAddress, TxtWords, CommentInData, PtrDot}
 use Rattle.finding_codes.specs.declared.rule.Rule.{Rule}
 use Rattle.rdata_values.specs.Rtype as Rtype
 use Rattle.rdata_values.specs.declared.types.RecordType.{RecordType}
 use Rattle.rdata_fields.specs.declared.record_ref.RecordRef.{RecordRef}
 use Rattle.record_rules.specs.Comments.{has_word_at_comment}
-use Rattle.record_rules.specs.Labels.{beyond_name, beyond_string, ends_in_name, has_at_sign, is_asterisk, is_divided_below, is_nibble_label, is_octet_label, beyond_passing, name_labels, leading_string}
+use Rattle.record_rules.specs.Labels.{begins_underscore, beyond_name, beyond_string, ends_in_name, has_at_sign, is_asterisk, is_divided_below, is_nibble_label, is_octet_label, beyond_passing, name_labels, leading_string}
 use Rattle.record_rules.specs.Substitutions.{is_substitution}
 use Rattle.record_rules.specs.declared.written.Written.{Written}
 
@@ -144,6 +144,14 @@ is_bad_in_tree test count top labels = ends_in_name (drop 1 labels) top && (not 
 abbrev pub is_bad_reverse : List (List ℕ) → Bool
 is_bad_reverse labels = is_bad_in_tree is_octet_label 4 in_addr_top labels || is_bad_in_tree is_nibble_label 32 ip6_top labels
 
+-- a name below `in-addr.arpa` or `ip6.arpa`
+abbrev pub is_below_reverse : List (List ℕ) → Bool
+is_below_reverse labels = ends_in_name (drop 1 labels) in_addr_top || ends_in_name (drop 1 labels) ip6_top
+
+-- the owner and the target of a PTR are in a reverse tree, where only addresses have names of hosts (RFC 1035 section 3.5); services are named there too (RFC 6763)
+abbrev pub lacks_final_dot : List (List ℕ) → List (List ℕ) → Bool
+lacks_final_dot owner target = is_below_reverse owner && (is_below_reverse target && not (list_any begins_underscore owner))
+
 -- an asterisk after the first label (RFC 4592 section 2.1.1)
 abbrev pub has_inner_asterisk : List (List ℕ) → Bool
 has_inner_asterisk labels = list_any is_asterisk (drop 1 labels)
@@ -214,6 +222,7 @@ breaks_alone WildcardInside way owner rtype octets text = has_inner_asterisk (na
 breaks_alone TargetAddress way owner rtype octets text = has_address_target owner rtype octets
 breaks_alone TxtWords way owner rtype octets text = rtype == Rtype.txt && (option_map_or (λ w. not w.has_quotes) text false && has_version_words octets)
 breaks_alone CommentInData way owner rtype octets text = is_text_type rtype && option_map_or (λ w. has_word_at_comment w.last.now) text false
+breaks_alone PtrDot way owner rtype octets text = rtype == Rtype.ptr && lacks_final_dot (name_labels owner) (name_labels octets)
 breaks_alone _ way owner rtype octets text = false
 
 -- the same, of a record whose octets are borrowed

@@ -12,7 +12,7 @@ use Rattle.record_rules.specs.Substitutions.{group_count, is_substitution}
 use Rattle.record_rules.specs.declared.regexp.Spot.TheVariants.{Plain}
 use Rattle.finding_codes.specs.Rule.{coded_rule}
 use Rattle.finding_codes.specs.declared.code.Code.{Code}
-use Rattle.finding_codes.specs.declared.code.Code.TheVariants.{SpfType, NaptrRegexp, NaptrBoth, CaaTag, SoaMail, SoaTimers, ReverseName, WildcardInside, TargetAddress, TxtWords, CommentInData}
+use Rattle.finding_codes.specs.declared.code.Code.TheVariants.{SpfType, NaptrRegexp, NaptrBoth, CaaTag, SoaMail, SoaTimers, ReverseName, WildcardInside, TargetAddress, TxtWords, CommentInData, PtrDot}
 use Rattle.finding_codes.specs.declared.rule.Rule.{Rule}
 use Rattle.record_rules.specs.declared.written.Written.{Written}
 
@@ -404,6 +404,54 @@ two_stars_row = refl
 part_star_row : broken_at (coded_rule WildcardInside 0) (codes "b" ∷ under (codes "a*")) Rtype.a [] ≡ false
 unfolding name_labels
 part_star_row = refl
+
+-- ---- final dots of targets in reverse trees
+
+abbrev lacks_dot : List (List ℕ) → RecordType → List (List ℕ) → Bool
+lacks_dot owner rtype target = broken_at (coded_rule PtrDot 0) owner rtype (wire target)
+
+-- the name of an address of 192.0.2.0/24, and what `host` becomes there
+abbrev one_reversed : List (List ℕ)
+one_reversed = below_in_addr (codes "1" ∷ codes "2" ∷ codes "0" ∷ codes "192" ∷ [])
+
+abbrev host_reversed : List (List ℕ)
+host_reversed = below_in_addr (codes "host" ∷ codes "2" ∷ codes "0" ∷ codes "192" ∷ [])
+
+dotless_row : lacks_dot one_reversed Rtype.ptr host_reversed ≡ true
+unfolding name_labels
+dotless_row = refl
+
+dotless_ip6_row : lacks_dot (below_ip6 (codes "1" ∷ codes "0" ∷ [])) Rtype.ptr (below_ip6 (codes "host" ∷ codes "0" ∷ [])) ≡ true
+unfolding name_labels
+dotless_ip6_row = refl
+
+dotted_row : lacks_dot one_reversed Rtype.ptr (under (codes "host")) ≡ false
+unfolding name_labels
+dotted_row = refl
+
+-- the top of a tree is not below it
+top_target_row : lacks_dot one_reversed Rtype.ptr (below_in_addr []) ≡ false
+unfolding name_labels
+top_target_row = refl
+
+other_owner_row : lacks_dot (under (codes "a")) Rtype.ptr host_reversed ≡ false
+unfolding name_labels
+other_owner_row = refl
+
+-- b._dns-sd._udp (RFC 6763 section 11)
+service_pointer_row : lacks_dot (below_in_addr (codes "b" ∷ codes "_dns-sd" ∷ codes "_udp" ∷ codes "0" ∷ codes "2" ∷ codes "0" ∷ codes "192" ∷ [])) Rtype.ptr host_reversed ≡ false
+unfolding name_labels
+service_pointer_row = refl
+
+-- an underscore that is not the first octet
+inner_underscore_row : lacks_dot (below_in_addr (codes "a_b" ∷ codes "2" ∷ codes "0" ∷ codes "192" ∷ [])) Rtype.ptr host_reversed ≡ true
+unfolding name_labels
+inner_underscore_row = refl
+
+-- a CNAME of RFC 2317
+alias_row : lacks_dot one_reversed Rtype.cname host_reversed ≡ false
+unfolding name_labels
+alias_row = refl
 
 -- ---- targets
 

@@ -9,7 +9,7 @@ ghost use Rattle.record_rules.specs.LoneRules.{begins_version, breaks_record_rul
 use crate::caa::{has_capital_tag, has_critical_tag, has_unknown_tag};
 use crate::comments::has_word_at_comment;
 use crate::labels::{after_string, first_string};
-use crate::names::{has_address_target, has_inner_asterisk, is_bad_reverse};
+use crate::names::{has_address_target, has_inner_asterisk, is_bad_reverse, lacks_final_dot};
 use crate::naptr::{has_bad_expression, has_two_results};
 use crate::soa::{
     has_early_expire, has_late_retry, has_long_minimum, has_mail_sign, has_one_mail_label,
@@ -17,22 +17,13 @@ use crate::soa::{
 use crate::written::Written;
 use arrayvec::ArrayVec;
 use finding_codes::code::Code;
+use finding_codes::rule;
 use finding_codes::rule::Rule;
 use rdata_fields::RecordRef;
 use rdata_values::RecordType;
 
-/// A rule, as `rule!(CODE, WAY)`.
-macro_rules! rule {
-    ($code:ident, $way:literal) => {
-        Rule {
-            code: Code::$code,
-            way: $way,
-        }
-    };
-}
-
 /// All rules, in the order in which they are checked.
-pub static LONE_RULES: [Rule; 16] = [
+pub static LONE_RULES: [Rule; 17] = [
     rule!(SpfType, 0),
     rule!(NaptrRegexp, 0),
     rule!(NaptrBoth, 0),
@@ -49,16 +40,18 @@ pub static LONE_RULES: [Rule; 16] = [
     rule!(TargetAddress, 0),
     rule!(TxtWords, 0),
     rule!(CommentInData, 0),
+    rule!(PtrDot, 0),
 ];
 
 /// Those for a record of any type.
 static RULES_OF_ANY: [Rule; 2] = [rule!(WildcardInside, 0), rule!(TargetAddress, 0)];
 
 /// Those for a PTR.
-static RULES_OF_PTR: [Rule; 3] = [
+static RULES_OF_PTR: [Rule; 4] = [
     rule!(ReverseName, 0),
     rule!(WildcardInside, 0),
     rule!(TargetAddress, 0),
+    rule!(PtrDot, 0),
 ];
 
 /// Those for a TXT.
@@ -216,6 +209,7 @@ pub fn breaks_rule(rule: Rule, record: &RecordRef<'_>, written: Option<Written<'
             rtype == RecordType::TXT && is_unquoted(written) && has_version_words(record.data)
         }
         Code::CommentInData => is_text_type(rtype) && ends_at_comment(written),
+        Code::PtrDot => rtype == RecordType::PTR && lacks_final_dot(record.owner, record.data),
         _ => false,
     }
 }

@@ -4,7 +4,7 @@ ghost use Rattle.std.specs.List.{list_any};
 ghost use Rattle.std.specs.Option.{option_copied, option_map};
 ghost use Rattle.dns_wire.specs.Order.{same_name};
 ghost use Rattle.record_rules.specs.LoneRules.{is_nil_list};
-ghost use Rattle.record_rules.specs.Labels.{beyond_name, beyond_passing, beyond_string, ends_in_name, has_at_sign, has_slash_or_hyphen, is_asterisk, is_divided_below, is_nibble_label, is_octet_label, last_two, leading_string, name_labels, passes_test, HasFirstLabel, IsRootBefore};
+ghost use Rattle.record_rules.specs.Labels.{begins_underscore, beyond_name, beyond_passing, beyond_string, ends_in_name, has_at_sign, has_slash_or_hyphen, is_asterisk, is_divided_below, is_nibble_label, is_octet_label, last_two, leading_string, name_labels, passes_test, HasFirstLabel, IsRootBefore};
 
 use dns_octets::lowered::same_octets;
 
@@ -111,6 +111,8 @@ pub(crate) enum LabelTest {
     Asterisk,
     /// The label has an `@`.
     AtSign,
+    /// The label begins with `_`.
+    Underscore,
     /// The label is a decimal number from 0 to 255 without leading zeros.
     Number,
     /// The label is a hexadecimal digit.
@@ -169,6 +171,16 @@ pub(crate) fn has_at_sign(label: &[u8]) -> bool
     label.iter().any(|octet| *octet == b'@')
 }
 
+/// Returns whether a label begins with `_`.
+fn begins_underscore(label: &[u8]) -> bool
+    ensures { result ≡ begins_underscore label.now }
+{
+    match label {
+        [octet, ..] => *octet == b'_',
+        _ => false,
+    }
+}
+
 /// Returns whether a label has a slash or a hyphen.
 fn has_slash_or_hyphen(label: &[u8]) -> bool
     ensures { result ≡ has_slash_or_hyphen label.now }
@@ -183,6 +195,7 @@ fn passes_test(test: LabelTest, label: &[u8]) -> bool
     match test {
         LabelTest::Asterisk => is_asterisk(label),
         LabelTest::AtSign => has_at_sign(label),
+        LabelTest::Underscore => begins_underscore(label),
         LabelTest::Number => is_octet_label(label),
         LabelTest::HexDigit => is_nibble_label(label),
     }

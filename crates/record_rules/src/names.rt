@@ -1,7 +1,7 @@
 //! Checks owners, and names of hosts.
 ghost use Rattle.std.specs.Prelude.{◌≡◌, codes, drop, [], ◌∷◌};
 ghost use Rattle.record_rules.specs.Labels.{ends_in_name, is_nibble_label, is_octet_label, last_two, name_labels, passes_test, IsEndBelow};
-ghost use Rattle.record_rules.specs.LoneRules.{has_address_target, has_inner_asterisk, in_addr_top, ip6_top, is_address_name, is_address_target, is_bad_in_tree, is_bad_reverse, is_free_in_tree, is_origin_of, target_offset};
+ghost use Rattle.record_rules.specs.LoneRules.{has_address_target, has_inner_asterisk, in_addr_top, ip6_top, is_address_name, is_address_target, is_bad_in_tree, is_bad_reverse, is_below_reverse, is_free_in_tree, is_origin_of, lacks_final_dot, target_offset};
 
 use crate::labels::{
     LabelTest, after_count, after_nibbles, after_passing, any_label, first_label, is_asterisk,
@@ -97,6 +97,35 @@ pub(crate) fn is_bad_reverse(name: &[u8]) -> bool
     }
     let end = last_two(parent(name));
     is_bad_in_addr(end, name) || is_bad_in_ip6(end, name)
+}
+
+/// Returns whether a name is below `in-addr.arpa`.
+fn is_below_in_addr(name: &[u8]) -> bool
+    ensures { result ≡ ends_in_name (drop 1 (name_labels name.now)) in_addr_top }
+{
+    is_within(parent(name), IN_ADDR_ARPA)
+}
+
+/// Returns whether a name is below `ip6.arpa`.
+fn is_below_ip6(name: &[u8]) -> bool
+    ensures { result ≡ ends_in_name (drop 1 (name_labels name.now)) ip6_top }
+{
+    is_within(parent(name), IP6_ARPA)
+}
+
+/// Returns whether a name is below `in-addr.arpa` or `ip6.arpa`.
+fn is_below_reverse(name: &[u8]) -> bool
+    ensures { result ≡ is_below_reverse (name_labels name.now) }
+{
+    is_below_in_addr(name) || is_below_ip6(name)
+}
+
+/// Returns whether the owner and the target of a PTR are in reverse trees, and the owner is not the
+/// name of a service.
+pub(crate) fn lacks_final_dot(owner: &[u8], target: &[u8]) -> bool
+    ensures { result ≡ lacks_final_dot (name_labels owner.now) (name_labels target.now) }
+{
+    is_below_reverse(owner) && is_below_reverse(target) && !any_label(owner, LabelTest::Underscore)
 }
 
 /// Returns the number of octets before the name of a host or the target of an alias, in RDATA of a
