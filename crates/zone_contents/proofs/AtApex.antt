@@ -5,9 +5,9 @@ use Rattle.std.proofs.lemmas.List.Sums.{sum_by-append}
 use Rattle.rdata_values.specs.Rtype as Rtype
 use Rattle.zone_record.specs.TypeData.{TypeData}
 use Rattle.zone_record.specs.declared.record.Record.{Record}
-use Rattle.zone_set.specs.Serials.{soa_serial}
-use Rattle.zone_set.specs.Checks.{HasSerial, HaveVerdicts, HasVerdict, apex_data}
-use Rattle.zone_set.specs.declared.verdict.Verdict.{Verdict}
+use Rattle.zone_serial.specs.Serials.{soa_serial}
+use Rattle.zone_contents.specs.Checks.{HasSerial, HaveVerdicts, HasVerdict, apex_data}
+use Rattle.zone_contents.specs.declared.verdict.Verdict.{Verdict}
 
 -- one more of these is counted if it passes
 pub count-push : (p : TypeData → Bool) (ds : List TypeData) (d : TypeData) → count_by p (ds ++ d ∷ []) ≡ count_by p ds + cond (p d) 1 0

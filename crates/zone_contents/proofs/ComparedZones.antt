@@ -13,12 +13,12 @@ use Rattle.zone_contents.specs.Steps.{distinct_from, HasDistinct, IsNewTtl, Skip
 use Rattle.zone_contents.specs.declared.changes.ZoneChange.{ZoneChange}
 use Rattle.zone_contents.specs.declared.changes.ZoneChange.TheVariants.{Removed, Added}
 use Rattle.zone_contents.specs.declared.changes.ZoneStep.{ZoneStep}
-use Rattle.zone_set.specs.Differences.{changed_record, ttl_of, AreChanges, HoldSame}
-use Rattle.zone_set.specs.Lookups.{canonical_order, same_key, AreCanonical}
-use Rattle.zone_set.specs.declared.changes.Change.{Change}
-use Rattle.zone_set.proofs.Firsts.{find_dedup}
-use Rattle.zone_set.proofs.Passing.{above_front, no_changes, none_below, order_total, steps_added, steps_both, steps_removed, turned_order, AllAbove}
-use Rattle.zone_set.proofs.Patches.{same_or_changes}
+use Rattle.zone_contents.specs.Differences.{changed_record, ttl_of, AreChanges, HoldSame}
+use Rattle.zone_contents.specs.Lookups.{canonical_order, same_key, AreCanonical}
+use Rattle.zone_contents.specs.declared.changes.Change.{Change}
+use Rattle.zone_contents.proofs.Firsts.{find_dedup}
+use Rattle.zone_contents.proofs.Passing.{above_front, no_changes, none_below, order_total, steps_added, steps_both, steps_removed, turned_order, AllAbove}
+use Rattle.zone_contents.proofs.Patches.{same_or_changes}
 
 abbrev Listed : Type 0
 Listed = Record (Unit {0}) (Unit {0})
@@ -49,23 +49,23 @@ module _ (old new : ZoneValue) where
     pub step_removed : (next : ℕ) → from < length old.records → SkipsDuplicates old from next → AllAbove (contents_at old from) (distinct_from new to)
         → StepsOver old new from to (record { change = Some (Removed from); old = next; new = to })
     step_removed next lt skips above =
-        let s = steps_removed (distinct_from old from) (distinct_from new to) (lent (contents_at old from)) (lent (distinct_from old next)) (lent (distinct_from new to)) skips.are (sym skips.fewer) refl p q above in
+        let s = steps_removed (distinct_from old from) (distinct_from new to) (lent (contents_at old from)) (distinct_from old next) skips.are (sym skips.fewer) p above in
         record { fewer = s.fewer; inside = one (IsInZones old new) (Removed from) lt; goes_on = s.goes_on }
 
     pub step_added : (next : ℕ) → to < length new.records → SkipsDuplicates new to next → AllAbove (contents_at new to) (distinct_from old from)
         → StepsOver old new from to (record { change = Some (Added to); old = from; new = next })
     step_added next lt skips above =
-        let s = steps_added (distinct_from old from) (distinct_from new to) (lent (contents_at new to)) (lent (distinct_from old from)) (lent (distinct_from new next)) skips.are (sym skips.fewer) refl p q above in
+        let s = steps_added (distinct_from old from) (distinct_from new to) (lent (contents_at new to)) (distinct_from new next) skips.are (sym skips.fewer) q above in
         record { fewer = s.fewer; inside = one (IsInZones old new) (Added to) lt; goes_on = s.goes_on }
 
     pub step_both : (next other : ℕ) (change : Option ZoneChange) → SkipsDuplicates old from next → SkipsDuplicates new to other → canonical_order (contents_at old from) (contents_at new to) ≡ Equal
         → MatchOption change ((contents_at old from).ttl ≡ (contents_at new to).ttl) (IsNewTtl old new from to) → StepsOver old new from to (record { change = change; old = next; new = other })
     step_both next other None left right tie same =
-        let s = steps_both (distinct_from old from) (distinct_from new to) (contents_at old from) (contents_at new to) None (lent (distinct_from old next)) (lent (distinct_from new other))
+        let s = steps_both (distinct_from old from) (distinct_from new to) (contents_at old from) (contents_at new to) None (distinct_from old next) (distinct_from new other)
         left.are (sym left.fewer) right.are (sym right.fewer) p q tie same in
         record { fewer = s.fewer; inside = All-nil (IsInZones old new); goes_on = s.goes_on }
     step_both next other (Some c) left right tie t =
-        let s = steps_both (distinct_from old from) (distinct_from new to) (contents_at old from) (contents_at new to) (Some (change_of old new c)) (lent (distinct_from old next)) (lent (distinct_from new other))
+        let s = steps_both (distinct_from old from) (distinct_from new to) (contents_at old from) (contents_at new to) (Some (change_of old new c)) (distinct_from old next) (distinct_from new other)
         left.are (sym left.fewer) right.are (sym right.fewer) p q tie (record { other = t.other; key = t.key; before = t.before; after = t.after }) in
         record { fewer = s.fewer; inside = one (IsInZones old new) c t.inside; goes_on = s.goes_on }
 

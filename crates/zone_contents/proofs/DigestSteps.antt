@@ -23,13 +23,13 @@ use Rattle.zone_contents.proofs.Distinct.{rest_from, rest_none, rest_step}
 use Rattle.zone_contents.proofs.Listings.{listed_at, listed_length, valid_at}
 use Rattle.zone_contents.proofs.ZoneNames.{is_name_of, owner_wire}
 use Rattle.zone_rules.specs.Searches.{AreOwnedFrom}
-use Rattle.zone_set.specs.Checks.{alike_count, apex_data, is_alike, is_at_apex, HasVerdict, HaveVerdicts}
-use Rattle.zone_set.specs.Duplicates.{is_duplicate_at}
-use Rattle.zone_set.specs.Hashed.{hashed_octets, is_apex, is_hashed}
-use Rattle.zone_set.specs.Serials.{soa_serial}
-use Rattle.zone_set.specs.Stored.{record_at}
-use Rattle.zone_set.specs.declared.verdict.Verdict.{Verdict}
-use Rattle.zone_set.specs.declared.zonemd.Zonemd.{Zonemd}
+use Rattle.zone_contents.specs.Checks.{alike_count, apex_data, is_alike, is_at_apex, HasVerdict, HaveVerdicts}
+use Rattle.zone_store.specs.Duplicates.{is_duplicate_at}
+use Rattle.zone_contents.specs.Hashed.{hashed_octets, is_apex, is_hashed}
+use Rattle.zone_serial.specs.Serials.{soa_serial}
+use Rattle.zone_store.specs.Stored.{record_at}
+use Rattle.zone_contents.specs.declared.verdict.Verdict.{Verdict}
+use Rattle.zone_contents.specs.declared.zonemd.Zonemd.{Zonemd}
 
 abbrev Listed : Type 0
 Listed = Record (Unit {0}) (Unit {0})

@@ -25,11 +25,11 @@ use Rattle.zone_contents.proofs.Listings.{listed_at, listed_get, listed_length, 
 use Rattle.zone_contents.proofs.ZoneKeys.{keys_in_order}
 use Rattle.zone_contents.proofs.ZoneNames.{owner_is}
 use Rattle.zone_rules.specs.Zones.{as_listed, AreInOrder}
-use Rattle.zone_set.specs.Duplicates.{is_duplicate_at}
-use Rattle.zone_set.specs.Lookups.{canonical_order, same_key, AreCanonical}
-use Rattle.zone_set.specs.Stored.{AddedRecord, absent_parts, added_record, is_same_stored, parts_cmp, record_at, stored_order}
-use Rattle.zone_set.proofs.CanonicalOrders as Orders
-use Rattle.zone_set.proofs.Passing.{order_total}
+use Rattle.zone_store.specs.Duplicates.{is_duplicate_at}
+use Rattle.zone_contents.specs.Lookups.{canonical_order, same_key, AreCanonical}
+use Rattle.zone_store.specs.Stored.{AddedRecord, absent_parts, added_record, is_same_stored, parts_cmp, record_at, stored_order}
+use Rattle.zone_store.proofs.CanonicalOrders as Orders
+use Rattle.zone_contents.proofs.Passing.{order_total}
 
 abbrev Listed : Type 0
 Listed = Record (Unit {0}) (Unit {0})

@@ -7,7 +7,7 @@ use Rattle.zone_contents.specs.Keys.{key_in_zone}
 use Rattle.zone_contents.specs.Searches.{has_type_within, EndsKey}
 use Rattle.zone_contents.proofs.Listings.{owned_from, within_is}
 use Rattle.zone_rules.specs.Zones.{has_type_at}
-use Rattle.zone_set.specs.Stored.{AddedRecord, stored_order, CountsBeforeKey}
+use Rattle.zone_store.specs.Stored.{AddedRecord, stored_order, CountsBeforeKey}
 
 -- the types of the records with a key are those of the name
 pub few_types : (apex name : List (List ℕ)) (records : List AddedRecord) (key front back : List ℕ) (first past code : ℕ) → All (IsZoneRecord apex) records → IsSorted stored_order records → key ≡ key_in_zone apex name → front ≡ key → back ≡ key

@@ -25,8 +25,8 @@ use Rattle.zone_rules.specs.Searches.{AreOwnedFrom}
 use Rattle.zone_rules.specs.Zones.{has_type_at, type_of}
 use Rattle.zone_rules.proofs.Lookups.{any_in_filter, filter_behind, filter_front, same_is}
 use Rattle.zone_rules.proofs.Searches.{none_passes}
-use Rattle.zone_set.specs.Stored.{AddedRecord, absent_parts, added_record, has_stored_rrset, order_to_rrset, record_at, stored_order, CountsBeforeKey}
-use Rattle.zone_set.proofs.EntrySearches.{greater_last, keys_coarser, keys_total}
+use Rattle.zone_store.specs.Stored.{AddedRecord, absent_parts, added_record, has_stored_rrset, order_to_rrset, record_at, stored_order, CountsBeforeKey}
+use Rattle.zone_store.proofs.EntrySearches.{greater_last, keys_coarser, keys_total}
 
 abbrev none : AddedRecord
 none = added_record [] absent_parts

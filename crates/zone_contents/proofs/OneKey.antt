@@ -17,7 +17,7 @@ use Rattle.zone_contents.specs.Contents.{listing, IsZoneRecord}
 use Rattle.zone_contents.specs.Keys.{name_in_zone, zone_key, IsNameKey}
 use Rattle.zone_contents.proofs.Listings.{listed_get, valid_at}
 use Rattle.zone_contents.proofs.ZoneNames.{lower_key, owner_is}
-use Rattle.zone_set.specs.Stored.{record_at, AddedRecord}
+use Rattle.zone_store.specs.Stored.{record_at, AddedRecord}
 
 same_itself : (name : List (List ℕ)) → same_name name name ≡ true
 same_itself name = same_is name name ∙ ap is_eq (tied_itself names_total name)

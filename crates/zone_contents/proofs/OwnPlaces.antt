@@ -17,8 +17,8 @@ use Rattle.zone_contents.specs.Searches.{BeginsKey, EndsKey}
 use Rattle.zone_contents.proofs.Listings.{listed_get, owned_from, valid_at}
 use Rattle.zone_contents.proofs.OneKey.{key_back}
 use Rattle.zone_rules.specs.Searches.{AreOwnedAt, AreOwnedFrom}
-use Rattle.zone_set.specs.Stored.{AddedRecord, absent_parts, added_record, record_at, stored_order, CountsBeforeKey}
-use Rattle.zone_set.proofs.EntrySearches.{greater_last, keys_coarser, keys_total, lesser_first}
+use Rattle.zone_store.specs.Stored.{AddedRecord, absent_parts, added_record, record_at, stored_order, CountsBeforeKey}
+use Rattle.zone_store.proofs.EntrySearches.{greater_last, keys_coarser, keys_total, lesser_first}
 
 abbrev none : AddedRecord
 none = added_record [] absent_parts

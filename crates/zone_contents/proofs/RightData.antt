@@ -2,9 +2,9 @@
 use Rattle.std.proofs.Common.{ℕ, ◌≡◌, ◌⊎◌, inl, inr, List, [], ◌∷◌, ◌++◌, refl, ap, ◌∙◌, append_assoc, arith}
 use Rattle.std.specs.Int.{to_be_bytes, w32}
 use Rattle.zone_record.specs.declared.record.Record.{Record}
-use Rattle.zone_set.specs.Checks.{HasSerial}
-use Rattle.zone_set.specs.Computed.{AppendsDigest, IsRightData}
-use Rattle.zone_set.specs.Verdicts.{IsDigest}
+use Rattle.zone_contents.specs.Checks.{HasSerial}
+use Rattle.zone_contents.specs.Computed.{AppendsDigest, IsRightData}
+use Rattle.zone_contents.specs.Verdicts.{IsDigest}
 
 known_of : (hash : ℕ) (octets digest : List ℕ) → IsDigest hash octets digest → (hash ≡ 1) ⊎ (hash ≡ 2)
 known_of hash octets digest (inl is) = inl is.0

@@ -11,10 +11,10 @@ use Rattle.std.proofs.lemmas.List.Elements.{All-head, All-tail}
 use Rattle.zone_record.specs.declared.record.Record.{Record}
 use Rattle.zone_contents.specs.Contents.{listed_record, listing, IsZoneRecord}
 use Rattle.zone_contents.proofs.Distinct.{canonical_from, stored_in_order}
-use Rattle.zone_set.specs.Lookups.{canonical_order, same_key, AreCanonicalOf}
-use Rattle.zone_set.specs.Stored.{AddedRecord, stored_order}
-use Rattle.zone_set.proofs.Firsts.{find_dedup, find_stable}
-use Rattle.zone_set.proofs.Passing.{order_total}
+use Rattle.zone_contents.specs.Lookups.{canonical_order, same_key, AreCanonicalOf}
+use Rattle.zone_store.specs.Stored.{AddedRecord, stored_order}
+use Rattle.zone_contents.proofs.Firsts.{find_dedup, find_stable}
+use Rattle.zone_contents.proofs.Passing.{order_total}
 
 abbrev Listed : Type 0
 Listed = Record (Unit {0}) (Unit {0})

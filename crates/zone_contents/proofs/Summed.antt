@@ -21,7 +21,7 @@ use Rattle.zone_contents.specs.declared.summary.Summary.{Summary}
 use Rattle.zone_contents.proofs.ZoneNames.{name_is}
 use Rattle.zone_rules.specs.Above.{is_wildcard}
 use Rattle.zone_rules.specs.Zones.{type_of}
-use Rattle.zone_set.specs.Stored.{AddedRecord}
+use Rattle.zone_store.specs.Stored.{AddedRecord}
 
 pub none_summed : {N O : Type 0} → IsSummary {N = N} {O = O} [] no_summary
 none_summed = record { dname = refl; wildcard = refl; empty = λ _. refl; classes = λ _. All-nil _ }

@@ -24,8 +24,8 @@ use Rattle.zone_rules.specs.Zones.{has_type_at, type_of}
 use Rattle.zone_rules.proofs.Lookups.{same_is}
 use Rattle.zone_rules.proofs.Neighbours.{within_more}
 use Rattle.zone_rules.proofs.SharedNames.{within_here}
-use Rattle.zone_set.specs.Stored.{AddedRecord, absent_parts, added_record, record_at, stored_order}
-use Rattle.zone_set.proofs.EntrySearches.{keys_coarser, keys_total, lesser_first}
+use Rattle.zone_store.specs.Stored.{AddedRecord, absent_parts, added_record, record_at, stored_order}
+use Rattle.zone_store.proofs.EntrySearches.{keys_coarser, keys_total, lesser_first}
 
 abbrev none : AddedRecord
 none = added_record [] absent_parts

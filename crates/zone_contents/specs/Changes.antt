@@ -5,10 +5,10 @@ use Rattle.zone_record.specs.declared.record.Record.{Record}
 use Rattle.zone_contents.specs.Contents.{contents, listed_record, ZoneValue}
 use Rattle.zone_contents.specs.declared.changes.ZoneChange.{ZoneChange}
 use Rattle.zone_contents.specs.declared.changes.ZoneChange.TheVariants.{Removed, Added, NewTtl}
-use Rattle.zone_set.specs.Differences.{AreChanges, HoldSame, MakeOf}
-use Rattle.zone_set.specs.Stored.{record_at}
-use Rattle.zone_set.specs.declared.changes.Change.{Change}
-use Rattle.zone_set.specs.declared.changes.Change.TheVariants as Set
+use Rattle.zone_contents.specs.Differences.{AreChanges, HoldSame, MakeOf}
+use Rattle.zone_store.specs.Stored.{record_at}
+use Rattle.zone_contents.specs.declared.changes.Change.{Change}
+use Rattle.zone_contents.specs.declared.changes.Change.TheVariants as Set
 
 -- the record of a zone at an index
 abbrev pub contents_at : ZoneValue → ℕ → Record (Unit {0}) (Unit {0})

@@ -8,7 +8,7 @@ use Rattle.zone_record.specs.declared.record.Record.{Record}
 use Rattle.zone_contents.specs.Keys.{key_in_zone, name_in_zone, IsNameKey}
 use Rattle.zone_contents.specs.Summaries.{IsSummary}
 use Rattle.zone_contents.specs.declared.summary.Summary.{Summary}
-use Rattle.zone_set.specs.Stored.{AddedRecord, added_record, stored_order}
+use Rattle.zone_store.specs.Stored.{AddedRecord, added_record, stored_order}
 
 -- the apex of a zone, and records with the keys of their owners in it
 pub record ZoneValue : Type 0 where

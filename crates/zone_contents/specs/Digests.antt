@@ -9,16 +9,16 @@ use Rattle.zone_record.specs.TypeData.{TypeData}
 use Rattle.zone_record.specs.declared.record.Record.{Record}
 use Rattle.zone_contents.specs.Changes.{contents_at}
 use Rattle.zone_contents.specs.Contents.{contents, ZoneValue}
-use Rattle.zone_set.specs.Checks.{alike_count, apex_data, is_at_apex, HasSerial, HasVerdict, IsCheckError, IsChecked}
-use Rattle.zone_set.specs.Computed.{AppendsDigest, IsRightData, hash_code}
-use Rattle.zone_set.specs.Duplicates.{is_duplicate_at}
-use Rattle.zone_set.specs.Hashed.{hashed_octets}
-use Rattle.zone_set.specs.Lookups.{same_key, AreCanonicalOf}
-use Rattle.zone_set.specs.Verdicts.{IsDigest}
-use Rattle.zone_set.specs.declared.algorithm.HashAlgorithm.{HashAlgorithm}
-use Rattle.zone_set.specs.declared.error.CheckError.{CheckError}
-use Rattle.zone_set.specs.declared.verdict.Verdict.{Verdict}
-use Rattle.zone_set.specs.declared.zonemd.Zonemd.{Zonemd}
+use Rattle.zone_contents.specs.Checks.{alike_count, apex_data, is_at_apex, HasSerial, HasVerdict, IsCheckError, IsChecked}
+use Rattle.zone_contents.specs.Computed.{AppendsDigest, IsRightData, hash_code}
+use Rattle.zone_store.specs.Duplicates.{is_duplicate_at}
+use Rattle.zone_contents.specs.Hashed.{hashed_octets}
+use Rattle.zone_contents.specs.Lookups.{same_key, AreCanonicalOf}
+use Rattle.zone_contents.specs.Verdicts.{IsDigest}
+use Rattle.zone_contents.specs.declared.algorithm.HashAlgorithm.{HashAlgorithm}
+use Rattle.zone_contents.specs.declared.error.CheckError.{CheckError}
+use Rattle.zone_contents.specs.declared.verdict.Verdict.{Verdict}
+use Rattle.zone_contents.specs.declared.zonemd.Zonemd.{Zonemd}
 
 -- the records of a zone, and of duplicates the first one
 abbrev pub distinct_records : ZoneValue → List (Record (Unit {0}) (Unit {0}))

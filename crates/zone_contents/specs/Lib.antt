@@ -1,9 +1,17 @@
 pub mod Changes
+pub mod Checks
+pub mod Computed
 pub mod Contents
+pub mod Differences
+pub mod DigestRows
 pub mod Digests
+pub mod Hashed
 pub mod Keys
 pub mod Locations
+pub mod LookupRows
+pub mod Lookups
 pub mod Rows
 pub mod Searches
 pub mod Steps
 pub mod Summaries
+pub mod Verdicts

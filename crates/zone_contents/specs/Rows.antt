@@ -7,9 +7,9 @@ use Rattle.zone_contents.specs.Digests.{chosen_at, first_at, simple_fields, zone
 use Rattle.zone_contents.specs.Keys.{joined_octets, key_in_zone, name_in_zone, name_octets}
 use Rattle.zone_contents.specs.Locations.{far_number, located, location}
 use Rattle.zone_contents.specs.declared.changes.ZoneChange.TheVariants.{Removed, Added, NewTtl}
-use Rattle.zone_set.specs.Differences.{after_change, before_change}
-use Rattle.zone_set.specs.Stored.{added_record, AddedRecord}
-use Rattle.zone_set.specs.declared.algorithm.HashAlgorithm.TheVariants.{Sha512}
+use Rattle.zone_contents.specs.Differences.{after_change, before_change}
+use Rattle.zone_store.specs.Stored.{added_record, AddedRecord}
+use Rattle.zone_contents.specs.declared.algorithm.HashAlgorithm.TheVariants.{Sha512}
 
 -- the zone `b.`
 abbrev zone : List (List ℕ)

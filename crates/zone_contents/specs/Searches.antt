@@ -7,7 +7,7 @@ use Rattle.zone_contents.specs.declared.summary.Summary.{Summary}
 use Rattle.zone_rules.specs.Present.{rrset_of_record}
 use Rattle.zone_rules.specs.Zones.{has_type_at}
 use Rattle.zone_rules.specs.Searches.{closest_above_earlier, shared_with}
-use Rattle.zone_set.specs.Stored.{AddedRecord, record_at}
+use Rattle.zone_store.specs.Stored.{AddedRecord, record_at}
 
 -- records from one index up to another have a key, and the next one has not
 pub record EndsKey (key : List ℕ) (records : List AddedRecord) (first past : ℕ) : Type 0 where

@@ -7,11 +7,11 @@ use Rattle.zone_contents.specs.Changes.{change_of, changes_of, contents_at, IsIn
 use Rattle.zone_contents.specs.Contents.{contents, ZoneValue}
 use Rattle.zone_contents.specs.declared.changes.ZoneChange.{ZoneChange}
 use Rattle.zone_contents.specs.declared.changes.ZoneStep.{ZoneStep}
-use Rattle.zone_set.specs.Duplicates.{is_duplicate_at}
-use Rattle.zone_set.specs.Differences.{after_change, before_change, changed_record, AreChanges}
-use Rattle.zone_set.specs.Lookups.{same_key, AreCanonical}
-use Rattle.zone_set.specs.Stored.{AddedRecord}
-use Rattle.zone_set.specs.declared.changes.Change.{Change}
+use Rattle.zone_store.specs.Duplicates.{is_duplicate_at}
+use Rattle.zone_contents.specs.Differences.{after_change, before_change, changed_record, AreChanges}
+use Rattle.zone_contents.specs.Lookups.{same_key, AreCanonical}
+use Rattle.zone_store.specs.Stored.{AddedRecord}
+use Rattle.zone_contents.specs.declared.changes.Change.{Change}
 
 -- the records from an index on, without duplicates
 abbrev pub distinct_from : ZoneValue → ℕ → List (Record (Unit {0}) (Unit {0}))

@@ -5,6 +5,7 @@ ghost use Rattle.zone_contents.specs.Contents.{contents, AreSortedRecords};
 ghost use Rattle.zone_contents.specs.Digests.{data_at, is_chosen, AddsChosen, AreApexPlaces, FindsSerial};
 ghost use Rattle.zone_rules.specs.Searches.{AreOwnedFrom};
 
+use crate::scope::is_apex;
 use crate::searches::places;
 use crate::stored::StoredZone;
 use dns_octets::AsOctets;
@@ -15,8 +16,7 @@ use zone_record::Data;
 use zone_rules::ZoneRecords;
 use zone_rules::names::{name_of, octets_of};
 use zone_rules::zone_records::OwnerBuffer;
-use zone_set::scope::is_apex;
-use zone_set::serial_of;
+use zone_serial::serial_of;
 
 /// Returns whether the record at an index has a type, is at the apex of a zone, and is not a
 /// duplicate. Writes its owner to the buffer.

@@ -2,15 +2,30 @@
 ghost use Rattle.std.specs.Prelude.{◌≡◌, ◌↔◌, ◌<◌, [], All, IfOk, MatchOption, length};
 ghost use Rattle.zone_contents.specs.Changes.{contents_at, AreZoneChanges, HoldSameRecords, IsInZones, MakeZone};
 ghost use Rattle.zone_contents.specs.Steps.{IsNewTtl, AtEnds, EndsDuplicates, HasDistinct, SameTtl, SkipsDuplicates, StepsOver};
-ghost use Rattle.zone_set.specs.Lookups.{canonical_order};
-ghost use Rattle.zone_set.specs.Stored.{record_at};
+ghost use Rattle.zone_contents.specs.Lookups.{canonical_order};
+ghost use Rattle.zone_store.specs.Stored.{record_at};
 
 use crate::stored::StoredZone;
+use dns_octets::AsOctets;
 use std::alloc::{AllocError, Allocator};
 use std::cmp::Ordering;
+use zone_record::Record;
 use zone_rules::ZoneRecords;
 use zone_rules::zone_records::OwnerBuffer;
-use zone_set::SortedStore;
+use zone_store::SortedStore;
+
+/// A difference between two zones in the records of one owner, class, type and RDATA, with these
+/// records.
+#[derive_where(Clone, Copy)]
+pub enum Change<'a, Owner: AsOctets, Octets: AsOctets> {
+    /// Only the first zone has this record.
+    Removed(&'a Record<Owner, Octets>),
+    /// Only the second zone has this record.
+    Added(&'a Record<Owner, Octets>),
+    /// Both zones have the record, with different TTLs: first that of the first zone, then that of
+    /// the second.
+    NewTtl(&'a Record<Owner, Octets>, &'a Record<Owner, Octets>),
+}
 
 /// A difference between two zones in the records of one owner, class, type and RDATA, by the indexes
 /// of these records.

@@ -2,17 +2,20 @@
 ghost use Rattle.std.specs.Prelude.{◌≡◌, ◌↔◌, ◌++◌, IfOk, IfErr, IsTrue, OnOk};
 ghost use Rattle.rdata_values.specs.Rtype as Rtype;
 ghost use Rattle.zone_contents.specs.Digests.{simple_fields, zone_alike_count, zone_octets, AddsZoneDigest, AreApexPlaces, HasZoneDigest, HasZoneVerdict, IsDigestData, IsRightForZone, IsZoneCheckError, IsZoneChecked};
-ghost use Rattle.zone_set.specs.Verdicts.{IsVerdict};
+ghost use Rattle.zone_contents.specs.Verdicts.{IsVerdict};
 
+use crate::algorithm::HashAlgorithm;
 use crate::apex_records::{apex_places, apex_serial};
+use crate::error::CheckError;
 use crate::hashing::{sha384_digest, sha512_digest};
 use crate::stored::StoredZone;
+use crate::verdict::Verdict;
+use crate::zonemd::Zonemd;
 use dns_octets::{AsOctets, OctetsBuilder, ShortBuf};
 use dns_wire::Name;
 use rdata_values::RecordType;
 use std::alloc::Allocator;
 use zone_record::Data;
-use zone_set::{CheckError, HashAlgorithm, Verdict, Zonemd};
 
 /// Returns the number of ZONEMD records at the apex with the scheme and the hash algorithm of one.
 /// They are at these indexes.

@@ -4,6 +4,7 @@ ghost use Rattle.sha2.specs.Sha512.{sha384, sha512};
 ghost use Rattle.zone_contents.specs.Contents.{AreSortedRecords};
 ghost use Rattle.zone_contents.specs.Digests.{zone_octets, AddsHashed};
 
+use crate::scope::is_hashed;
 use crate::stored::StoredZone;
 use dns_octets::{AsOctets, ShortBuf};
 use dns_wire::Name;
@@ -11,7 +12,6 @@ use sha2::{Digest, Sha384, Sha512};
 use std::alloc::Allocator;
 use zone_rules::ZoneRecords;
 use zone_rules::zone_records::OwnerBuffer;
-use zone_set::is_hashed;
 
 impl<A: Allocator> StoredZone<A> {
     /// Returns the number of records. The proof reads that they are in canonical order.

@@ -11,7 +11,7 @@ use dns_wire::Name;
 use rdata_values::RecordType;
 use std::alloc::Allocator;
 use zone_rules::zone_records::HostTypes;
-use zone_set::SortedStore;
+use zone_store::SortedStore;
 
 /// Returns whether a record from one index up to another has a type.
 fn has_type_within<A: Allocator>(

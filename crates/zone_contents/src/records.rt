@@ -3,7 +3,7 @@ ghost use Rattle.std.specs.Prelude.{◌≡◌, ◌<◌, All, length};
 ghost use Rattle.zone_contents.specs.Contents.{listed_record, IsZoneRecord};
 ghost use Rattle.zone_record.specs.Records.{data_of};
 ghost use Rattle.zone_rules.specs.Zones.{as_listed};
-ghost use Rattle.zone_set.specs.Stored.{record_at};
+ghost use Rattle.zone_store.specs.Stored.{record_at};
 
 use crate::lookups::{has_type, host_types};
 use crate::searches::{
@@ -17,7 +17,7 @@ use std::alloc::Allocator;
 use zone_record::{Data, Record};
 use zone_rules::ZoneRecords;
 use zone_rules::zone_records::{HostTypes, OwnerBuffer, ZoneRecord};
-use zone_set::SortedStore;
+use zone_store::SortedStore;
 
 /// Returns the record at an index, with its owner in lower case. Writes the owner to the buffer.
 fn record_at<'b, A: Allocator>(

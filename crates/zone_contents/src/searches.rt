@@ -6,7 +6,7 @@ ghost use Rattle.zone_contents.specs.Searches.{closest_earlier, shared_by, Begin
 ghost use Rattle.zone_rules.specs.Present.{rrset_of_record};
 ghost use Rattle.zone_rules.specs.Searches.{before_place, AreOwnedAt, AreOwnedFrom, PartsBefore};
 ghost use Rattle.zone_rules.specs.Zones.{closest_owned, is_one_owner, AreInOrder};
-ghost use Rattle.zone_set.specs.Stored.{record_at, CountsBeforeKey};
+ghost use Rattle.zone_store.specs.Stored.{record_at, CountsBeforeKey};
 
 use crate::zone_key::{Apex, MAX_ZONE_KEY, ZoneKey, write_name, write_split_name};
 use arrayvec::ArrayVec;
@@ -15,7 +15,7 @@ use std::alloc::Allocator;
 use zone_rules::names::{name_of, octets_of, shared_name};
 use zone_rules::search::longer;
 use zone_rules::zone_records::OwnerBuffer;
-use zone_set::SortedStore;
+use zone_store::SortedStore;
 
 /// Greatest number of records of one owner that are looked at one after another.
 const FEW: usize = 8;

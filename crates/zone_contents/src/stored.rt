@@ -4,8 +4,8 @@ ghost use Rattle.std.specs.List.Sorted.{IsPermutation, IsSorted, IsStable};
 ghost use Rattle.dns_octets.specs.Lowered.{lowered};
 ghost use Rattle.zone_contents.specs.Contents.{stored_in_zone, AddsRecord, AddsStored, AreWithinZone, IsZoneRecord};
 ghost use Rattle.zone_contents.specs.Digests.{HasCanonicalSet};
-ghost use Rattle.zone_set.specs.Duplicates.{is_duplicate_at};
-ghost use Rattle.zone_set.specs.Stored.{record_at, stored_order};
+ghost use Rattle.zone_store.specs.Duplicates.{is_duplicate_at};
+ghost use Rattle.zone_store.specs.Stored.{record_at, stored_order};
 
 use crate::summary::Summary;
 use crate::zone_key::{AFTER, Apex, WITHIN, ZoneKey};
@@ -16,7 +16,7 @@ use std::alloc::{AllocError, Allocator, Global};
 use std::marker::Model;
 use zone_record::Record;
 use zone_rules::names::octets_of;
-use zone_set::{EntryHeader, GroupEntry, RecordStore, SortedStore};
+use zone_store::{EntryHeader, GroupEntry, RecordStore, SortedStore};
 
 /// Adds a record to a store, with the key of its owner in a zone. Fails without memory; the store is
 /// then unchanged.

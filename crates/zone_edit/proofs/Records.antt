@@ -6,7 +6,7 @@ use Rattle.std.proofs.lemmas.Bool.{eq-eqb, eqb-true, true≢false}
 use Rattle.std.proofs.Math.Seq.{take-append_seam}
 use Rattle.dns_codec.specs.Base.{base16, encoded}
 use Rattle.dns_lexer.specs.declared.pieces.Span.{Span}
-use Rattle.zone_set.specs.declared.zonemd.Zonemd.{Zonemd}
+use Rattle.zone_contents.specs.declared.zonemd.Zonemd.{Zonemd}
 use Rattle.zone_edit.specs.declared.edit.Edit.{Edit}
 use Rattle.zone_edit.specs.declared.tokens.TokenError.{TokenError}
 use Rattle.zone_edit.specs.declared.zonemd.ZonemdEdit.{ZonemdEdit}

@@ -3,7 +3,7 @@ use Rattle.std.specs.Prelude.{⊤, ◌≡◌, ◌<◌, ◌≤◌, ◌⊎◌, ℕ
 use Rattle.std.specs.Int.{to_be_bytes, w32}
 use Rattle.dns_codec.specs.Base.{base16, encoded}
 use Rattle.dns_lexer.specs.declared.pieces.Span.{Span}
-use Rattle.zone_set.specs.declared.zonemd.Zonemd.{Zonemd}
+use Rattle.zone_contents.specs.declared.zonemd.Zonemd.{Zonemd}
 use Rattle.zone_edit.specs.declared.tokens.TokenError.{TokenError}
 use Rattle.zone_edit.specs.declared.tokens.TokenError.TheVariants.{OutOfMemory, OutOfOrder, TooFew}
 use Rattle.zone_edit.specs.declared.zonemd.ZonemdEdit.{ZonemdEdit}

@@ -10,7 +10,7 @@ use crate::mark::is_generic;
 use crate::tokens::TokenError;
 use dns_lexer::pieces::Span;
 use std::alloc::{AllocError, Allocator};
-use zone_set::Zonemd;
+use zone_contents::Zonemd;
 
 /// A ZONEMD record of a zone file, and the RDATA that it gets.
 #[derive(Clone, Copy)]

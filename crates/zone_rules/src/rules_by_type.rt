@@ -1,19 +1,9 @@
 //! The rules that a record may break, by its type.
 ghost use Rattle.zone_rules.specs.RulesByType.{HasRulesOf};
 
-use finding_codes::code::Code;
+use finding_codes::rule;
 use finding_codes::rule::Rule;
 use rdata_values::RecordType;
-
-/// A rule, as `rule!(CODE, WAY)`.
-macro_rules! rule {
-    ($code:ident, $way:literal) => {
-        Rule {
-            code: Code::$code,
-            way: $way,
-        }
-    };
-}
 
 /// The rules for records, in the order in which their findings are reported.
 const RECORD_RULES: [Rule; 28] = [

@@ -1,3 +1,4 @@
 mod Days
 mod Distances
 mod Orders
+mod SoaParts

@@ -1,5 +1,5 @@
 -- Worked examples of the definitions.
-use Rattle.std.specs.Prelude.{◌≡◌, true, false, [], ◌∷◌, map, refl}
+use Rattle.std.specs.Prelude.{◌≡◌, ◌-◌, ◌^◌, true, false, [], ◌∷◌, map, refl}
 use Rattle.std.proofs.Common.{arith, inl, inr}
 use Rattle.rdata_values.specs.Time.{date_at, year_at, month_at, holding}
 use Rattle.zone_serial.specs.NextSerials.{IsDatedUpTo, day_of, day_serial, incremented, increments}
@@ -108,3 +108,22 @@ late_row h = omega (arith, h.1)
 -- ---- back by 1: the third step reaches it
 far_row : map farthest_from (0 ∷ 2026112601 ∷ 4294967295 ∷ []) ≡ 2147483647 ∷ 4173596248 ∷ 2147483646 ∷ []
 far_row = refl
+
+-- ---- serials of 32 bits: after the greatest value comes 0
+wraps_row : IsLessByDistance 32 (2 ^ 32 - 1) 0
+wraps_row = inr (omega arith, omega arith)
+
+rises_row : IsLessByDistance 32 2018031900 2018031901
+rises_row = inl (omega arith, omega arith)
+
+farthest_row : IsLessByDistance 32 0 (2 ^ 31 - 1)
+farthest_row = inl (omega arith, omega arith)
+
+-- at this distance neither is less
+half_row : IsLessByDistance 32 0 (2 ^ 31) → ⊥
+half_row (inl h) = omega (arith, h.1)
+half_row (inr h) = omega (arith, h.0)
+
+falls_row : IsLessByDistance 32 100 99 → ⊥
+falls_row (inl h) = omega (arith, h.0)
+falls_row (inr h) = omega (arith, h.1)

@@ -6,9 +6,10 @@ ghost use Rattle.zone_serial.specs.NextSerials.{incremented};
 /// Greatest number that is added to a serial (RFC 1982 section 3.1).
 pub(crate) const FARTHEST: u32 = (1 << 31) - 1;
 
-/// Returns whether the serial `new` is greater than `old` (RFC 1982 section 3.2).
+/// Returns whether the serial `new` is greater than `old` (RFC 1982 section 3.2). At a distance of
+/// 2^31 it is not.
 #[tactic(auto, using(crate::proofs::Distances::after_by, crate::proofs::Distances::distance_of))]
-pub(crate) fn is_after(old: u32, new: u32) -> bool
+pub fn is_after(old: u32, new: u32) -> bool
     ensures { IsTrue result ↔ IsSerialAfter 32 old new }
 {
     let distance = new.wrapping_sub(old);

@@ -8,9 +8,9 @@ use Rattle.std.specs.declared.cmp.Ordering.TheVariants.{Less, Equal, Greater}
 use Rattle.std.proofs.lemmas.Cmp.{ranked, tied_back}
 use Rattle.std.proofs.lemmas.List.Elements.{All-from_recursion}
 use Rattle.zone_set.specs.MergeHeads.{ComesBefore, merge_head_order}
-use Rattle.zone_set.specs.Lookups.{canonical_order}
+use Rattle.zone_contents.specs.Lookups.{canonical_order}
 use Rattle.zone_set.specs.declared.merge_heads.MergeHead.{MergeHead}
-use Rattle.zone_set.proofs.Passing.{order_total}
+use Rattle.zone_contents.proofs.Passing.{order_total}
 
 module _ {N O : Type 0} where
   by_order : (f g : MergeHead N O) (c d : Ordering) → c ≡ canonical_order g.record f.record → d ≡ nat_cmp g.run f.run → is_lt (ordering_then c d) ≡ false → ComesBefore f g

@@ -6,7 +6,7 @@ use Rattle.std.specs.declared.cmp.Ordering.TheVariants.{Less, Equal, Greater}
 use Rattle.std.proofs.lemmas.List.Elements.{All-from_recursion}
 use Rattle.zone_record.specs.declared.record.Record.{Record}
 use Rattle.zone_set.specs.MergeHeads.{ComesBefore}
-use Rattle.zone_set.specs.Lookups.{canonical_order}
+use Rattle.zone_contents.specs.Lookups.{canonical_order}
 use Rattle.zone_set.specs.Merges.{IsLedBy, RemovesFirst}
 use Rattle.zone_set.specs.declared.merge_heads.MergeHead.{MergeHead}
 

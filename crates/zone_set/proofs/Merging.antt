@@ -14,11 +14,11 @@ use Rattle.std.proofs.lemmas.List.Folds.{find-append}
 use Rattle.std.proofs.lemmas.List.Kept.{IsStrictlySortedBy-dedup}
 use Rattle.std.proofs.lemmas.Map.Keys.{sorted_head, sorted_tail}
 use Rattle.zone_record.specs.declared.record.Record.{Record}
-use Rattle.zone_set.specs.Lookups.{AreCanonical, AreCanonicalOf, canonical_order, same_key}
+use Rattle.zone_contents.specs.Lookups.{AreCanonical, AreCanonicalOf, canonical_order, same_key}
 use Rattle.zone_set.specs.Merges.{AreRunsOf, IsLedBy, MergesTo, RemovesFirst, records_of_runs}
-use Rattle.zone_set.proofs.Differing.{above_less}
-use Rattle.zone_set.proofs.Firsts.{find_dedup}
-use Rattle.zone_set.proofs.Passing.{order_total}
+use Rattle.zone_contents.proofs.Differing.{above_less}
+use Rattle.zone_contents.proofs.Firsts.{find_dedup}
+use Rattle.zone_contents.proofs.Passing.{order_total}
 
 less_not_greater : (c : Ordering) → c ≡ Less → c ≢ Greater
 less_not_greater c h e = cc

@@ -12,8 +12,8 @@ use Rattle.dns_symbol.specs.Characters.{line_feed}
 use Rattle.dns_wire.specs.Wire.{wire}
 use Rattle.dns_zone.specs.Printed.{printed}
 use Rattle.dns_zone.specs.declared.zonefile_fmt.DisplayKind.TheVariants.{Tabbed}
-use Rattle.zone_set.specs.declared.changes.Change.{Change}
-use Rattle.zone_set.specs.declared.changes.Change.TheVariants.{Removed, Added, NewTtl}
+use Rattle.zone_contents.specs.declared.changes.Change.{Change}
+use Rattle.zone_contents.specs.declared.changes.Change.TheVariants.{Removed, Added, NewTtl}
 
 abbrev pub owner_text : {N O : Type 0} → Record N O → List ℕ
 owner_text r = wire_name_text (wire r.owner)

@@ -4,7 +4,7 @@ use Rattle.std.specs.Ordering.{as_partial_cmp}
 use Rattle.zone_record.proofs.Orders.{records_total}
 use Rattle.zone_record.specs.CanonicalData.{record_key}
 use Rattle.zone_set.specs.MergeHeads.{merge_head_order, same_merge_head}
-use Rattle.zone_set.specs.Lookups.{canonical_order}
+use Rattle.zone_contents.specs.Lookups.{canonical_order}
 
 module _ {N O : Type 0} where
   records_ordered : IsTotalOrder (canonical_order {N = N} {O = O})

@@ -3,7 +3,7 @@ use Rattle.std.specs.Prelude.{◌≡◌, ◌≤◌, ◌⊎◌, Bool}
 use Rattle.std.specs.Ordering.{eq_by_cmp, flip_args, nat_cmp, on, then_cmp}
 use Rattle.std.specs.declared.cmp.Ordering.{Ordering}
 use Rattle.std.specs.declared.cmp.Ordering.TheVariants.{Less, Equal}
-use Rattle.zone_set.specs.Lookups.{canonical_order}
+use Rattle.zone_contents.specs.Lookups.{canonical_order}
 use Rattle.zone_set.specs.declared.merge_heads.MergeHead.{MergeHead}
 
 -- a front comes before another: by its record, or by its run if both records have one key

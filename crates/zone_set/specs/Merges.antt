@@ -1,8 +1,9 @@
 -- Sorted runs that are merged into one.
 use Rattle.std.specs.Prelude.{◌≡◌, ◌≢◌, List, [], ◌∷◌, ◌++◌, All, ⊤}
+use Rattle.std.specs.List.{dedup}
 use Rattle.std.specs.declared.cmp.Ordering.TheVariants.{Less, Greater}
 use Rattle.zone_record.specs.declared.record.Record.{Record}
-use Rattle.zone_set.specs.Lookups.{AreCanonicalOf, canonical_order}
+use Rattle.zone_contents.specs.Lookups.{AreCanonicalOf, canonical_order, same_key}
 
 -- the records of runs, run by run
 abbrev pub records_of_runs : {N O : Type 0} → List (List (Record N O)) → List (Record N O)
@@ -35,3 +36,16 @@ AreRunsOf [] [] = ⊤
 AreRunsOf [] (run ∷ runs) = ⊥
 AreRunsOf (part ∷ parts) [] = ⊥
 AreRunsOf (part ∷ parts) (run ∷ runs) = AreCanonicalOf part run × AreRunsOf parts runs
+
+-- records are taken from runs of parts of all records
+abbrev pub IsMergeOf : {N O : Type 0} → List (List (Record N O)) → List (Record N O) → Type 0
+IsMergeOf {N} {O} parts records = (runs : List (List (Record N O))) × AreRunsOf parts runs × MergesTo runs records
+
+-- without duplicates these are the canonical set of all records
+abbrev pub MergesAreCanonical : Type 0 → Type 0 → Type 0
+MergesAreCanonical N O = (parts : List (List (Record N O))) (records : List (Record N O)) → IsMergeOf parts records → AreCanonicalOf (records_of_runs parts) (dedup same_key records)
+
+-- all canonical sets of all records are this one
+abbrev pub MergesAreOne : Type 0 → Type 0 → Type 0
+MergesAreOne N O =
+    (parts : List (List (Record N O))) (records canonical : List (Record N O)) → IsMergeOf parts records → AreCanonicalOf (records_of_runs parts) canonical → dedup same_key records ≡ canonical

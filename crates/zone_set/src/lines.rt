@@ -3,13 +3,13 @@ ghost use Rattle.std.specs.Prelude.{◌≡◌, ◌++◌, OnOk};
 ghost use Rattle.std.specs.String.{string_bytes};
 ghost use Rattle.zone_set.specs.Lines.{change_line, generic_line, lower_hex_text, hex_word, middle_text, owner_text, record_line, ttls_text};
 
-use crate::changes::Change;
 use dns_codec::base16;
 use dns_octets::AsOctets;
 use dns_zone::zonefile_fmt::{DisplayKind, ZonefileFmt};
 use rdata_tokens::NameText;
 use rdata_values::{Class, RecordType};
 use std::alloc::{AllocError, Allocator};
+use zone_contents::Change;
 use zone_record::Record;
 
 /// Appends the line of a record: its owner, TTL, class and type, each followed by a tab, and its

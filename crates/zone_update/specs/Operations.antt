@@ -8,9 +8,9 @@ use Rattle.rdata_values.specs.Rtype as Rtype
 use Rattle.rdata_values.specs.declared.types.RecordType.{RecordType}
 use Rattle.zone_record.specs.Records.{data_of}
 use Rattle.zone_record.specs.declared.record.Record.{Record}
-use Rattle.zone_set.specs.Differences.{changed_record}
-use Rattle.zone_set.specs.declared.changes.Change.{Change}
-use Rattle.zone_set.specs.declared.changes.Change.TheVariants.{Removed, Added, NewTtl}
+use Rattle.zone_contents.specs.Differences.{changed_record}
+use Rattle.zone_contents.specs.declared.changes.Change.{Change}
+use Rattle.zone_contents.specs.declared.changes.Change.TheVariants.{Removed, Added, NewTtl}
 use Rattle.zone_update.specs.declared.operation.Operation.{Operation}
 use Rattle.zone_update.specs.declared.operation.Operation.TheVariants.{Delete, Add}
 

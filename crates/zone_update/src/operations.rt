@@ -1,14 +1,14 @@
 //! The operations that change one zone into another.
 ghost use Rattle.std.specs.Prelude.{◌≡◌, ◌++◌, OnOk};
-ghost use Rattle.zone_set.specs.Differences.{changed_record};
+ghost use Rattle.zone_contents.specs.Differences.{changed_record};
 ghost use Rattle.zone_update.specs.Operations.{has_new_ttl, is_change_sent, is_one_of, is_sent, key_types, last_new_ttl, operation_of, operations_of, signing_types};
 
 use crate::operation::{Operation, in_one_rrset};
 use dns_octets::AsOctets;
 use rdata_values::RecordType;
 use std::alloc::{AllocError, Allocator};
+use zone_contents::Change;
 use zone_record::Record;
-use zone_set::Change;
 
 /// Returns whether a server makes records of a type as it signs a zone: RRSIG, NSEC and NSEC3.
 fn is_of_signing(rtype: RecordType) -> bool
@@ -100,9 +100,9 @@ fn operation_of<'a, Owner: AsOctets, Octets: AsOctets>(
 }
 
 /// Appends the operations of changes: a removed record is deleted, an added record is added, and of
-/// each RRset with a new TTL one record is added with it. The changes are in canonical order, as
-/// those of [`changes_between`](zone_set::changes_between). Changes of types for which [`is_sent`]
-/// returns `false` have none. Fails if memory is out; then some may have been appended.
+/// each RRset with a new TTL one record is added with it. The changes are in canonical order, as those
+/// of [`changes_between_zones`](zone_contents::changes_between_zones). Changes of types for which
+/// [`is_sent`] returns `false` have none. Fails if memory is out; then some may have been appended.
 pub fn push_operations<'a, Owner: AsOctets, Octets: AsOctets, A: Allocator>(
     changes: &[Change<'a, Owner, Octets>],
     with_keys: bool,

@@ -3,7 +3,7 @@ use Rattle.std.specs.Option.{option_to_list}
 use Rattle.zone_contents.specs.Changes.{changes_of}
 use Rattle.zone_contents.specs.Contents.{contents}
 use Rattle.zone_contents.proofs.ComparedZones.{all_compared, more_compared, same_or_differ}
-use Rattle.zone_set.proofs.Patches.{makes}
+use Rattle.zone_contents.proofs.Patches.{makes}
 use Rattle.zone_contents.proofs.changes.changes_between_zones.Goals as goal
 
 pub loop-step-preserved-in_ok-push-in-Some-change : goal.loop-step-preserved-in_ok-push-in-Some-change

@@ -3,7 +3,7 @@ use Rattle.std.proofs.lemmas.Grind.{get_or_default_zero}
 use Rattle.rdata_values.specs.Rtype as Rtype
 use Rattle.zone_contents.specs.Digests.{data_at, zone_apex_data, zone_octets, HasZoneVerdict}
 use Rattle.zone_contents.proofs.DigestSteps.{verdict_next}
-use Rattle.zone_set.specs.Checks.{HaveVerdicts}
+use Rattle.zone_contents.specs.Checks.{HaveVerdicts}
 use Rattle.zone_contents.proofs.digests.check_digests.Goals as goal
 
 pub loop-place-preserved : goal.loop-place-preserved

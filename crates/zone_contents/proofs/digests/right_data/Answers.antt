@@ -1,7 +1,7 @@
 use Rattle.std.proofs.Common.{refl, subst}
 use Rattle.zone_contents.specs.Digests.{distinct_records, FindsSerial}
 use Rattle.zone_contents.proofs.RightData.{right_made}
-use Rattle.zone_set.specs.Computed.{hash_code}
+use Rattle.zone_contents.specs.Computed.{hash_code}
 use Rattle.zone_contents.proofs.digests.right_data.Goals as goal
 
 pub returns-in-Ok-make_data-clause-ok : goal.returns-in-Ok-make_data-clause-ok

@@ -3,7 +3,7 @@ use Rattle.zone_record.specs.CanonicalData.{canonical_record}
 use Rattle.zone_contents.specs.Changes.{contents_at}
 use Rattle.zone_contents.proofs.DigestSteps.{hashed_first, hashed_none}
 use Rattle.zone_contents.proofs.Distinct.{record_is}
-use Rattle.zone_set.specs.Hashed.{is_hashed}
+use Rattle.zone_contents.specs.Hashed.{is_hashed}
 use Rattle.zone_contents.proofs.hashing.append_hashed.Goals as goal
 
 pub returns-then-not-is_hashed : goal.returns-then-not-is_hashed

@@ -1,7 +1,7 @@
 use Rattle.std.proofs.Common.{[], ◌++◌, refl, ap, subst, arith, ◌∙◌}
 use Rattle.zone_contents.specs.Digests.{first_at, zone_octets}
 use Rattle.zone_contents.proofs.DigestSteps.{hashing_all, hashing_more}
-use Rattle.zone_set.specs.Hashed.{hashed_octets}
+use Rattle.zone_contents.specs.Hashed.{hashed_octets}
 use Rattle.zone_contents.proofs.hashing.hash_zone.Goals as goal
 
 pub loop-place-init : goal.loop-place-init

@@ -1,7 +1,7 @@
 use Rattle.std.proofs.Common.{ap, subst, sym, ◌≡◌, ◌∙◌}
 use Rattle.std.specs.Prelude.{All}
 use Rattle.zone_contents.proofs.Listings.{rrset_is}
-use Rattle.zone_set.specs.Stored.{has_stored_rrset}
+use Rattle.zone_store.specs.Stored.{has_stored_rrset}
 use Rattle.zone_contents.proofs.lookups.has_type.Goals as goal
 
 pub returns-in-Some : goal.returns-in-Some

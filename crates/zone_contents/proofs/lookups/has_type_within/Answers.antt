@@ -1,7 +1,7 @@
 use Rattle.std.proofs.Common.{◌≡◌, ◌≤◌, true, sym, ap, ◌∙◌, arith, rules}
 use Rattle.std.specs.Prelude.{◌==◌}
 use Rattle.zone_contents.proofs.Listings.{within_found, within_none}
-use Rattle.zone_set.specs.Stored.{record_at}
+use Rattle.zone_store.specs.Stored.{record_at}
 use Rattle.zone_contents.proofs.lookups.has_type_within.Goals as goal
 
 pub returns : goal.returns

@@ -1,6 +1,6 @@
 use Rattle.std.proofs.Common.{subst, ◌∙◌}
 use Rattle.zone_contents.proofs.Listings.{count_is}
-use Rattle.zone_set.specs.Stored.{CountsBeforeKey}
+use Rattle.zone_store.specs.Stored.{CountsBeforeKey}
 use Rattle.zone_contents.proofs.searches.count_before.Goals as goal
 
 pub returns-clause-point : goal.returns-clause-point

@@ -1,5 +1,5 @@
 use Rattle.std.proofs.Common.{◌≡◌, ◌-◌, ◌<◌, ◌≤◌}
-use Rattle.zone_set.specs.Stored.{record_at}
+use Rattle.zone_store.specs.Stored.{record_at}
 use Rattle.zone_contents.proofs.searches.first_of_many.Given as goal
 
 abbrev pub invariant-halve : goal.invariant-halve

@@ -3,7 +3,7 @@ use Rattle.rdata_tokens.specs.NameSpelling.{IsWireName}
 use Rattle.dns_wire.specs.Labelled.{wire_same}
 use Rattle.zone_contents.proofs.Listings.{valid_at}
 use Rattle.zone_contents.proofs.ZoneNames.{owner_wire}
-use Rattle.zone_set.specs.Stored.{record_at}
+use Rattle.zone_store.specs.Stored.{record_at}
 use Rattle.zone_contents.proofs.searches.owner_at.Goals as goal
 
 pub name_of-requires : goal.name_of-requires

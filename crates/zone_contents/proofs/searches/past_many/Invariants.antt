@@ -1,5 +1,5 @@
 use Rattle.std.proofs.Common.{◌≡◌, ◌-◌, ◌<◌, ◌≤◌, length}
-use Rattle.zone_set.specs.Stored.{record_at}
+use Rattle.zone_store.specs.Stored.{record_at}
 use Rattle.zone_contents.proofs.searches.past_many.Given as goal
 
 abbrev pub invariant-halve : goal.invariant-halve

@@ -1,7 +1,7 @@
 use Rattle.std.proofs.Common.{subst, ◌∙◌}
 use Rattle.zone_contents.specs.Searches.{EndsKey}
 use Rattle.zone_contents.proofs.Listings.{owned_from}
-use Rattle.zone_set.specs.Stored.{CountsBeforeKey}
+use Rattle.zone_store.specs.Stored.{CountsBeforeKey}
 use Rattle.zone_contents.proofs.searches.places.Goals as goal
 
 pub returns-clause-from : goal.returns-clause-from

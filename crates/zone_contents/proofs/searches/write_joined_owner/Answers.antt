@@ -3,7 +3,7 @@ use Rattle.dns_wire.specs.Wire.{wire}
 use Rattle.zone_contents.specs.Keys.{name_in_zone, IsNameKey}
 use Rattle.zone_contents.proofs.Listings.{valid_at}
 use Rattle.zone_contents.proofs.ZoneNames.{key_short}
-use Rattle.zone_set.specs.Stored.{record_at}
+use Rattle.zone_store.specs.Stored.{record_at}
 use Rattle.zone_contents.proofs.searches.write_joined_owner.Goals as goal
 
 pub write_key-requires-clause-short : goal.write_key-requires-clause-short

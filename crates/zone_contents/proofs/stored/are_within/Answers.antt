@@ -2,7 +2,7 @@ use Rattle.std.proofs.Common.{length, ap, sym, ◌∙◌, ◌-◌, [], ◌∷◌
 use Rattle.std.specs.Ordering.{is_lt}
 use Rattle.zone_record.specs.Names.{octet_order}
 use Rattle.zone_contents.proofs.WithinZone.{all_within, not_less, some_more}
-use Rattle.zone_set.specs.Stored.{record_at}
+use Rattle.zone_store.specs.Stored.{record_at}
 use Rattle.zone_contents.proofs.stored.are_within.Goals as goal
 
 pub returns-then-is_ge : goal.returns-then-is_ge

@@ -1,5 +1,5 @@
 use Rattle.std.proofs.Common.{[], get_or, inr, refl}
-use Rattle.zone_set.specs.declared.zonemd.Zonemd.{Zonemd}
+use Rattle.zone_contents.specs.declared.zonemd.Zonemd.{Zonemd}
 use Rattle.zone_edit.specs.declared.zonemd.ZonemdEdit.{ZonemdEdit}
 use Rattle.zone_edit.specs.Tokens.{Continues}
 use Rattle.zone_edit.proofs.Applying.{when_err}

@@ -5,7 +5,7 @@ use Rattle.zone_contents.specs.Contents.{listed_record, listing, IsZoneRecord}
 use Rattle.zone_contents.specs.Digests.{HasCanonicalSet}
 use Rattle.zone_contents.proofs.SortedSets.{sorted_canonical}
 use Rattle.zone_contents.proofs.Summed.{summed_sorted}
-use Rattle.zone_set.specs.Stored.{stored_order}
+use Rattle.zone_store.specs.Stored.{stored_order}
 use Rattle.zone_contents.proofs.stored.ZoneStore.sort.Goals as goal
 
 pub invariant_of-result : goal.invariant_of-result

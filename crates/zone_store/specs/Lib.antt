@@ -1,0 +1,10 @@
+pub mod Canonical
+pub mod Counted
+pub mod Duplicates
+pub mod Entries
+pub mod Indexes
+pub mod Parts
+pub mod Prefixes
+pub mod StoreRows
+pub mod Stored
+pub mod Stores
