@@ -1,3 +1,9 @@
+pub mod Appending
 pub mod Escapes
+pub mod Excerpts
 pub mod Extending
+pub mod LineParts
+pub mod OneLine
+pub mod PlainRuns
+pub mod Showing
 pub mod Texts

@@ -3,8 +3,8 @@ use Rattle.std.specs.Prelude.{ℕ, if◌then◌else◌, List, [], ◌∷◌, ◌
 use Rattle.std.specs.Borrow.{Bor}
 use Rattle.std.specs.Fmt.{decimal}
 use Rattle.std.specs.Str.{bytes_eq}
+use Rattle.finding_codes.specs.Code.{code_name, severity_name}
 use Rattle.finding_formats.specs.Escape.{escaped}
-use Rattle.finding_formats.specs.Json.{severity_word}
 use Rattle.finding_formats.specs.Pieces.{about_text, parts_text, opening_text, text_if}
 use Rattle.finding_formats.specs.declared.escape.Context.TheVariants.{Xml}
 use Rattle.finding_formats.specs.declared.finding.Finding.{Finding}
@@ -25,9 +25,9 @@ file_change (Some before) file = if bytes_eq before.now file then [] else file_e
 
 abbrev pub checkstyle_error : Finding → List ℕ
 checkstyle_error f = parts_text (
-    codes "<error line=\"" ∷ decimal f.line ∷ codes "\" column=\"" ∷ decimal f.column ∷ codes "\" severity=\"" ∷ severity_word f.is_error
+    codes "<error line=\"" ∷ decimal f.position.line ∷ codes "\" column=\"" ∷ decimal f.position.column ∷ codes "\" severity=\"" ∷ severity_name f.severity
     ∷ codes "\" message=\"" ∷ about_text Xml f.owner f.rtype ∷ escaped Xml f.message.now ∷ opening_text (codes ", opened at ") (codes ":") f.opened
-    ∷ text_if Xml (codes "&#10;help: ") f.help [] ∷ codes "\" source=\"" ∷ escaped Xml f.code.now ∷ codes "\"/>\n" ∷ [])
+    ∷ text_if Xml (codes "&#10;help: ") f.help [] ∷ codes "\" source=\"" ∷ escaped Xml (code_name f.code) ∷ codes "\"/>\n" ∷ [])
 
 -- a finding after one in a file whose element is open, or after none
 abbrev pub checkstyle_step : (before : Option (Bor (List ℕ))) → Finding → List ℕ

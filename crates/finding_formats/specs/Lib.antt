@@ -1,9 +1,13 @@
 pub mod Checkstyle
 pub mod Escape
+pub mod Excerpt
 pub mod Github
 pub mod Json
 pub mod Laws
+pub mod Lines
+pub mod Octets
 pub mod Pieces
 pub mod RecordJson
 pub mod Rows
 pub mod Sarif
+pub mod Shown

@@ -2,9 +2,9 @@
 use Rattle.std.specs.Prelude.{ℕ, List, [], ◌∷◌, ◌++◌, codes, Option, Some, None}
 use Rattle.std.specs.Borrow.{Bor}
 use Rattle.std.specs.Fmt.{decimal}
+use Rattle.dns_lexer.specs.declared.position.Position.{Position}
 use Rattle.finding_formats.specs.Escape.{escaped}
 use Rattle.finding_formats.specs.declared.escape.Context.{Context}
-use Rattle.finding_formats.specs.declared.finding.Opening.{Opening}
 use Rattle.finding_formats.specs.declared.piece.Piece.{Piece}
 use Rattle.finding_formats.specs.declared.piece.Piece.TheVariants.{Plain, Text, TextIn, Number, TextIf, NumberIf, Opened, About}
 
@@ -22,9 +22,9 @@ abbrev pub number_if : (before : List ℕ) → Option ℕ → List ℕ
 number_if before None = []
 number_if before (Some n) = before ++ decimal n
 
-abbrev pub opening_text : (before_line before_column : List ℕ) → Option Opening → List ℕ
+abbrev pub opening_text : (before_line before_column : List ℕ) → Option Position → List ℕ
 opening_text before_line before_column None = []
-opening_text before_line before_column (Some o) = (before_line ++ decimal o.line) ++ (before_column ++ decimal o.column)
+opening_text before_line before_column (Some p) = (before_line ++ decimal p.line) ++ (before_column ++ decimal p.column)
 
 -- `OWNER TYPE: `, `OWNER: `, `TYPE: `, or nothing
 abbrev pub about_text : Context → (owner rtype : Option (Bor (List ℕ))) → List ℕ

@@ -6,8 +6,7 @@ ghost use Rattle.dns_octets.specs.Appending.{Extends};
 ghost use Rattle.finding_formats.specs.Checkstyle.{checkstyle_end, checkstyle_error, checkstyle_file, checkstyle_start, checkstyle_step, file_change, file_end};
 
 use crate::escape::Context;
-use crate::finding::Finding;
-use crate::json::severity_word;
+use crate::finding::{Finding, code_word, severity_word};
 use crate::piece::{Piece, push_pieces};
 use std::alloc::{AllocError, Allocator};
 
@@ -73,18 +72,18 @@ fn push_error<A: Allocator>(out: &mut Vec<u8, A>, finding: &Finding<'_>) -> Resu
 {
     let pieces = [
         Piece::Plain(b"<error line=\""),
-        Piece::Number(finding.line),
+        Piece::Number(finding.position.line),
         Piece::Plain(b"\" column=\""),
-        Piece::Number(finding.column),
+        Piece::Number(finding.position.column),
         Piece::Plain(b"\" severity=\""),
-        Piece::Plain(severity_word(finding.is_error)),
+        Piece::Plain(severity_word(finding.severity)),
         Piece::Plain(b"\" message=\""),
         Piece::About(finding.owner, finding.rtype),
         Piece::Text(finding.message),
         Piece::Opened(b", opened at ", b":", finding.opened),
         Piece::TextIf(b"&#10;help: ", finding.help, b""),
         Piece::Plain(b"\" source=\""),
-        Piece::Text(finding.code),
+        Piece::Text(code_word(finding.code)),
         Piece::Plain(b"\"/>\n"),
     ];
     push_pieces(out, Context::Xml, &pieces)

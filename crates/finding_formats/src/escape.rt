@@ -29,7 +29,7 @@ pub enum Context {
 }
 
 /// Returns the hexadecimal digit of a value.
-fn hex_digit(is_upper: bool, value: u8) -> u8
+pub(crate) fn hex_digit(is_upper: bool, value: u8) -> u8
     requires { value < 16 }
     ensures { result ≡ digit_glyph is_upper value }
 {

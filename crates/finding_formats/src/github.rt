@@ -4,8 +4,7 @@ ghost use Rattle.dns_octets.specs.Appending.{Extends};
 ghost use Rattle.finding_formats.specs.Github.{github_line};
 
 use crate::escape::Context;
-use crate::finding::Finding;
-use crate::json::severity_word;
+use crate::finding::{Finding, code_word, severity_word};
 use crate::piece::{Piece, push_pieces};
 use std::alloc::{AllocError, Allocator};
 
@@ -25,17 +24,17 @@ pub fn push_finding<A: Allocator>(
 {
     let pieces = [
         Piece::Plain(b"::"),
-        Piece::Plain(severity_word(finding.is_error)),
+        Piece::Plain(severity_word(finding.severity)),
         Piece::Plain(b" file="),
         Piece::TextIn(Context::GithubProperty, finding.file),
         Piece::Plain(b",line="),
-        Piece::Number(finding.line),
+        Piece::Number(finding.position.line),
         Piece::Plain(b",col="),
-        Piece::Number(finding.column),
+        Piece::Number(finding.position.column),
         Piece::Plain(b",endColumn="),
         Piece::Number(finding.end_column),
         Piece::Plain(b",title="),
-        Piece::TextIn(Context::GithubProperty, finding.code),
+        Piece::TextIn(Context::GithubProperty, code_word(finding.code)),
         Piece::Plain(b"::"),
         Piece::About(finding.owner, finding.rtype),
         Piece::Text(finding.message),

@@ -1,19 +1,12 @@
 //! Formats findings as JSON objects, one a line (RFC 8259).
 ghost use Rattle.std.specs.Prelude.{◌≡◌, ◌++◌, OnErr, OnOk};
 ghost use Rattle.dns_octets.specs.Appending.{Extends};
-ghost use Rattle.finding_formats.specs.Json.{json_line, severity_word};
+ghost use Rattle.finding_formats.specs.Json.{json_line};
 
 use crate::escape::Context;
-use crate::finding::Finding;
+use crate::finding::{Finding, code_word, severity_word};
 use crate::piece::{Piece, push_pieces};
 use std::alloc::{AllocError, Allocator};
-
-/// Returns `error` or `warning`.
-pub(crate) fn severity_word(is_error: bool) -> &'static [u8]
-    ensures { result.now ≡ severity_word is_error }
-{
-    if is_error { b"error" } else { b"warning" }
-}
 
 /// Appends a finding as a JSON object, and LF.
 ///
@@ -34,17 +27,17 @@ pub fn push_finding<A: Allocator>(
         Piece::Plain(b"{\"file\":\""),
         Piece::Text(finding.file),
         Piece::Plain(b"\",\"line\":"),
-        Piece::Number(finding.line),
+        Piece::Number(finding.position.line),
         Piece::Plain(b",\"column\":"),
-        Piece::Number(finding.column),
+        Piece::Number(finding.position.column),
         Piece::Plain(b",\"end_column\":"),
         Piece::Number(finding.end_column),
         Piece::Opened(b",\"opened_line\":", b",\"opened_column\":", finding.opened),
         Piece::NumberIf(b",\"generate\":", finding.generate),
         Piece::Plain(b",\"severity\":\""),
-        Piece::Plain(severity_word(finding.is_error)),
+        Piece::Plain(severity_word(finding.severity)),
         Piece::Plain(b"\",\"code\":\""),
-        Piece::Text(finding.code),
+        Piece::Text(code_word(finding.code)),
         Piece::TextIf(b"\",\"owner\":\"", finding.owner, b""),
         Piece::TextIf(b"\",\"type\":\"", finding.rtype, b""),
         Piece::Plain(b"\",\"message\":\""),

@@ -1,6 +1,9 @@
-//! Laws of escaped texts, for all octets.
+//! Laws of escaped texts, for all octets, and of findings as they are formatted.
 //! Each function's contract is the law; calling it does nothing.
+ghost use Rattle.finding_formats.specs.Json.{ObjectsAreLines};
 ghost use Rattle.finding_formats.specs.Laws.{AreUtf8, HaveNoControls, PropertiesHaveNoEnd, StringsEndWhereClosed, XmlHasNoMarkup};
+ghost use Rattle.finding_formats.specs.Lines.{FindingsAreLines};
+ghost use Rattle.finding_formats.specs.Shown.{ShowsEachCharacter};
 
 /// Each escaped text is UTF-8.
 pub fn texts_are_utf8()
@@ -25,4 +28,19 @@ pub fn xml_has_no_markup()
 /// A property of a workflow command has no comma and no colon, which would end it.
 pub fn properties_have_no_end()
     ensures { PropertiesHaveNoEnd }
+{}
+
+/// Each character of octets is shown as one, so that a caret is under its own.
+pub fn each_character_is_shown()
+    ensures { ShowsEachCharacter }
+{}
+
+/// A finding is formatted as one line for people, for every file name and every message.
+pub fn findings_are_lines()
+    ensures { FindingsAreLines }
+{}
+
+/// A finding is one line as a JSON object.
+pub fn objects_are_lines()
+    ensures { ObjectsAreLines }
 {}

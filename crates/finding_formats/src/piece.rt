@@ -7,7 +7,7 @@ ghost use Rattle.finding_formats.specs.Escape.{escaped};
 ghost use Rattle.finding_formats.specs.Pieces.{about_text, number_if, opening_text, piece_text, text_if};
 
 use crate::escape::{Context, push_escaped};
-use crate::finding::Opening;
+use dns_lexer::position::Position;
 use itoa::Buffer;
 use std::alloc::{AllocError, Allocator};
 
@@ -27,7 +27,7 @@ pub(crate) enum Piece<'a> {
     /// A number in decimal after a beginning, if there is one.
     NumberIf(&'a [u8], Option<usize>),
     /// A line and a column, each after a beginning, if there are any.
-    Opened(&'a [u8], &'a [u8], Option<Opening>),
+    Opened(&'a [u8], &'a [u8], Option<Position>),
     /// The owner and the type that a finding is about, before a colon and a blank.
     About(Option<&'a [u8]>, Option<&'a [u8]>),
 }
@@ -88,16 +88,16 @@ fn push_opened<A: Allocator>(
     out: &mut Vec<u8, A>,
     before_line: &[u8],
     before_column: &[u8],
-    opened: Option<Opening>,
+    opened: Option<Position>,
 ) -> Result<(), AllocError>
     ensures ok { OnOk result (out.new.items
         ≡ out.old.items ++ opening_text before_line.now before_column.now opened) }
     ensures err { OnErr result (Extends out.old.items out.new.items) }
 {
     match opened {
-        Some(opening) => {
-            push_number(out, before_line, opening.line)?;
-            push_number(out, before_column, opening.column)
+        Some(position) => {
+            push_number(out, before_line, position.line)?;
+            push_number(out, before_column, position.column)
         }
         None => Ok(()),
     }

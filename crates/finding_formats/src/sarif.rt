@@ -6,9 +6,9 @@ ghost use Rattle.dns_octets.specs.Appending.{Extends};
 ghost use Rattle.finding_formats.specs.Sarif.{sarif_end, sarif_result, sarif_results, sarif_rule, sarif_start, separator};
 
 use crate::escape::Context;
-use crate::finding::Finding;
-use crate::json::severity_word;
+use crate::finding::{Finding, code_word, severity_word};
 use crate::piece::{Piece, push_pieces};
+use finding_codes::code::{Code, Severity};
 use std::alloc::{AllocError, Allocator};
 
 /// The program that found something.
@@ -21,10 +21,9 @@ pub struct Tool<'a> {
 /// A kind of finding.
 #[derive(Clone, Copy)]
 pub struct Rule<'a> {
-    /// Stable name of this kind of finding.
-    pub code: &'a [u8],
-    /// Whether such a finding is an error, unless an option changes it.
-    pub is_error: bool,
+    pub code: Code,
+    /// Severity of such a finding, unless an option changes it.
+    pub severity: Severity,
     /// What is wrong, in a sentence.
     pub summary: &'a [u8],
     /// What is wrong and what to write instead, in a paragraph.
@@ -71,13 +70,13 @@ pub fn push_rule<A: Allocator>(
     let pieces = [
         Piece::Plain(separator(is_first)),
         Piece::Plain(b"{\"id\":\""),
-        Piece::Text(rule.code),
+        Piece::Text(code_word(rule.code)),
         Piece::Plain(b"\",\"shortDescription\":{\"text\":\""),
         Piece::Text(rule.summary),
         Piece::Plain(b"\"},\"fullDescription\":{\"text\":\""),
         Piece::Text(rule.text),
         Piece::Plain(b"\"},\"defaultConfiguration\":{\"level\":\""),
-        Piece::Plain(severity_word(rule.is_error)),
+        Piece::Plain(severity_word(rule.severity)),
         Piece::Plain(b"\"}}"),
     ];
     push_pieces(out, Context::Json, &pieces)
@@ -111,9 +110,9 @@ pub fn push_finding<A: Allocator>(
     let pieces = [
         Piece::Plain(separator(is_first)),
         Piece::Plain(b"{\"ruleId\":\""),
-        Piece::Text(finding.code),
+        Piece::Text(code_word(finding.code)),
         Piece::Plain(b"\",\"level\":\""),
-        Piece::Plain(severity_word(finding.is_error)),
+        Piece::Plain(severity_word(finding.severity)),
         Piece::Plain(b"\",\"message\":{\"text\":\""),
         Piece::About(finding.owner, finding.rtype),
         Piece::Text(finding.message),
@@ -122,9 +121,9 @@ pub fn push_finding<A: Allocator>(
         Piece::Plain(b"\"},\"locations\":[{\"physicalLocation\":{\"artifactLocation\":{\"uri\":\""),
         Piece::TextIn(Context::Uri, finding.file),
         Piece::Plain(b"\"},\"region\":{\"startLine\":"),
-        Piece::Number(finding.line),
+        Piece::Number(finding.position.line),
         Piece::Plain(b",\"startColumn\":"),
-        Piece::Number(finding.column),
+        Piece::Number(finding.position.column),
         Piece::Plain(b",\"endColumn\":"),
         Piece::Number(finding.end_column),
         Piece::Plain(b"}}}]}"),

@@ -2,7 +2,7 @@
 use Rattle.std.proofs.Common.{◌≡◌, ℕ, ◌+◌, ◌<◌, ◌≤◌, ◌&&◌, ◌||◌, not, Bool, true, false, cond, List, [], ◌∷◌, ◌++◌, Option, map, length, drop, get_or, option_to_list, if◌then◌else◌, refl, sym, ap, ◌∙◌, append_assoc, drop_of_length-le}
 use Rattle.std.proofs.lemmas.List.{drop_more}
 use Rattle.std.specs.List.{filter}
-use Rattle.zonetext_report.specs.declared.lint.Remark.{Remark}
+use Rattle.zone_check.specs.declared.lint.Remark.{Remark}
 use Rattle.zone_check.specs.declared.finding.EntryFinding.{EntryFinding}
 use Rattle.zone_check.specs.declared.octet_findings.ReportedOctets.{ReportedOctets}
 use Rattle.zone_check.specs.OctetFindings.{finding_if, is_control_octet, is_control_z, is_reported, octet_finding, octet_findings, other_remarks, reports, until_control_z}

@@ -14,7 +14,7 @@ use Rattle.zone_reader.specs.declared.directive.Directive.{Directive as Directiv
 use Rattle.zone_reader.specs.declared.ttl.RecordTtl.{RecordTtl}
 use Rattle.finding_codes.specs.declared.code.Code.{Code}
 use Rattle.finding_codes.specs.declared.code.Code.TheVariants.{MaxEntry, NoOrigin, NoOwner}
-use Rattle.zonetext_report.specs.declared.lint.Block.{Block}
+use Rattle.zone_check.specs.declared.lint.Block.{Block}
 use Rattle.zone_check.specs.declared.entry.EntryContext.{EntryContext}
 use Rattle.zone_check.specs.declared.entry.EntryKind.{EntryKind}
 use Rattle.zone_check.specs.declared.entry.EntryKind.TheVariants.{Blank, Directive, Generate, OneRecord, Rejected, Malformed, TooLong}
@@ -159,23 +159,3 @@ pub record FindingsOfEntry (e : ReadEntry) (c : EntryContext) (before after : Li
   pub octets : AreOwnOctetFindings (is_scanned e.is_generated e.kind) e c [] scanned
   pub ended : list_any is_control_z_finding scanned ≡ true → after ≡ before ++ scanned
   pub read : list_any is_control_z_finding scanned ≡ false → AreReadFindings e.kind e c (before ++ scanned) after
-
--- ---- an entry without findings
-
--- such a kind adds none: a record or `$GENERATE` whose slips are not reported, or any if only the text is checked
-abbrev pub none_as_read : EntryKind → EntryContext → Bool
-none_as_read Blank c = true
-none_as_read Generate c = c.is_text || not c.reports_slips
-none_as_read (OneRecord ttl class rtype) c = c.is_text || not (is_reported_class class c)
-none_as_read Directive c = c.is_text
-none_as_read (Rejected e) c = c.is_text
-none_as_read (Malformed fault) c = false
-none_as_read TooLong c = false
-
--- what it was read as adds none
-abbrev pub HasNoneAsRead : ReadEntry → EntryContext → Type 0
-HasNoneAsRead e c = (before after : List EntryFinding) → AreReadFindings e.kind e c before after → after ≡ before
-
--- the findings about it are none
-abbrev pub HasNoFindings : ReadEntry → EntryContext → Type 0
-HasNoFindings e c = (before after : List EntryFinding) → FindingsOfEntry e c before after → after ≡ before

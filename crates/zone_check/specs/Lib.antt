@@ -1,13 +1,11 @@
 pub mod Codes
-pub mod Collected
 pub mod Data
 pub mod DirectiveFindings
 pub mod EntryFindings
 pub mod EntryWords
-pub mod FindingLaws
-pub mod FindingOrder
 pub mod FindingSpans
 pub mod GenerateFindings
+pub mod Lint
 pub mod NameFindings
 pub mod Names
 pub mod OctetFindings
@@ -16,7 +14,6 @@ pub mod RejectionFindings
 pub mod Rows
 pub mod RuleFindings
 pub mod Scan
-pub mod Shown
 pub mod TokensOf
 pub mod ValueFindings
 pub mod ZoneFindings

@@ -1,10 +1,10 @@
 -- Which findings about the octets of an entry are reported.
 use Rattle.std.specs.Prelude.{ℕ, ◌≡◌, ◌&&◌, not, if◌then◌else◌, Bool, true, false, List, [], ◌∷◌, ◌++◌, filter, map, Option, Some, None}
-use Rattle.zonetext_report.specs.Lint.{ShowsBlock}
+use Rattle.zone_check.specs.Lint.{ShowsBlock}
 use Rattle.finding_codes.specs.declared.code.Code.{Code}
 use Rattle.finding_codes.specs.declared.code.Code.TheVariants.{Nul, HighOctet, ControlOctet, ControlZ, NestedParentheses, LeadingParenthesis, AdjacentTokens, Crlf, NoFinalNewline}
-use Rattle.zonetext_report.specs.declared.lint.Block.{Block}
-use Rattle.zonetext_report.specs.declared.lint.Remark.{Remark}
+use Rattle.zone_check.specs.declared.lint.Block.{Block}
+use Rattle.zone_check.specs.declared.lint.Remark.{Remark}
 use Rattle.zone_check.specs.declared.finding.About.TheVariants.{Octets}
 use Rattle.zone_check.specs.declared.finding.EntryFinding.{EntryFinding}
 use Rattle.zone_check.specs.declared.octet_findings.ReportedOctets.{ReportedOctets}

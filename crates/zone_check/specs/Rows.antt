@@ -1,8 +1,8 @@
 -- Worked examples: findings about entries.
-use Rattle.std.specs.Prelude.{◌≡◌, ℕ, true, false, List, [], ◌∷◌, ◌++◌, codes, Some, None, refl}
+use Rattle.std.specs.Prelude.{◌≡◌, ℕ, true, false, List, [], ◌∷◌, ◌++◌, codes, Some, None, Ok, refl}
 use Rattle.std.specs.Fmt.{digits}
-use Rattle.std.specs.declared.cmp.Ordering.TheVariants.{Less}
 use Rattle.dns_lexer.specs.EntryTokens.{TokenSeen}
+use Rattle.dns_lexer.specs.Pieces.{comment_at, end_at, quote_at as quote_piece_at, word_at as word_piece_at}
 use Rattle.rdata.specs.Types.{type_shapes}
 use Rattle.rdata_values.specs.Rtype as Rtype
 use Rattle.zone_rules.specs.declared.rule.Finding.{Finding}
@@ -10,30 +10,24 @@ use Rattle.zone_generate.specs.declared.format.NumberBase.TheVariants.{Nibbles}
 use Rattle.zone_generate.specs.declared.part.Part.{Part}
 use Rattle.zone_generate.specs.declared.part.Part.TheVariants.{Number}
 use Rattle.zone_reader.specs.declared.ttl.RecordTtl.TheVariants.{Explicit, Minimum}
-use Rattle.zonetext_report.specs.Lint.{remark}
 use Rattle.finding_codes.specs.Rule.{coded_rule}
 use Rattle.finding_codes.specs.Table.{finding_rows, way_rows}
-use Rattle.finding_codes.specs.declared.code.Code.TheVariants.{CaaTag, CnameLoop, CommentInData, ControlOctet, ControlZ, Data, Duplicate, GenerateDot, Glue, MaxEntry, MaxTtl, MissingDot, NaptrBoth, NaptrRegexp, NoOrigin, NoOwner, ReverseName, SoaMail, SoaMinimumTtl, SoaTimers, SpfType, TargetAddress, Ttl, TtlDiffers, TxtWords, WildcardInside}
-use Rattle.finding_codes.specs.declared.code.Severity.TheVariants.{Error, Warning}
+use Rattle.finding_codes.specs.declared.code.Code.TheVariants.{AdjacentTokens, CaaTag, CnameLoop, CommentInData, ControlOctet, ControlZ, Data, Duplicate, GenerateDot, Glue, HighOctet, LeadingParenthesis, MaxEntry, MaxTtl, MissingDot, NaptrBoth, NaptrRegexp, NestedParentheses, NoFinalNewline, NoOrigin, NoOwner, Nul, ReverseName, SoaMail, SoaMinimumTtl, SoaTimers, SpfType, TargetAddress, Ttl, TtlDiffers, TxtWords, WildcardInside}
 use Rattle.zone_check.specs.declared.entry.EntryKind.TheVariants.{Blank, OneRecord, TooLong}
 use Rattle.zone_check.specs.declared.finding.About.TheVariants.{Entry, Octets, Rejection, RuleAtToken, RuleOfRecord, Token}
 use Rattle.zone_check.specs.declared.octet_findings.ReportedOctets.{ReportedOctets}
-use Rattle.zone_check.specs.declared.collector.FoundFinding.{FoundFinding}
 use Rattle.zone_check.specs.declared.zone_findings.BrokenRule.{BrokenRule}
-use Rattle.zone_check.specs.declared.shown.Decision.TheVariants.{Shown, Counted, Omitted}
-use Rattle.zone_check.specs.Collected.{counted_after, kept_finding, kept_if, number_after}
 use Rattle.zone_check.specs.Data.{has_ohttp_value}
 use Rattle.zone_check.specs.EntryFindings.{is_directive, is_news, is_of_parameters, is_scanned, long_finding, rejection_with, reports_crlf}
-use Rattle.zone_check.specs.FindingOrder.{first_findings, position_order, weight_order}
 use Rattle.zone_check.specs.FindingSpans.{finding_at, finding_of_entry}
 use Rattle.zone_check.specs.GenerateFindings.{dot_finding, dot_part, is_dot_part, of_name_field}
+use Rattle.zone_check.specs.Lint.{entry_remarks, first_reached, remark, unended}
 use Rattle.zone_check.specs.NameFindings.{name_findings, record_names}
 use Rattle.zone_check.specs.Names.{ends_in_dot, ends_like}
 use Rattle.zone_check.specs.OctetFindings.{octet_findings}
 use Rattle.zone_check.specs.RejectionFindings.{rejected_finding}
 use Rattle.zone_check.specs.RuleFindings.{rule_finding, rule_findings}
 use Rattle.zone_check.specs.Scan.{scan_of}
-use Rattle.zone_check.specs.Shown.{decisions_after}
 use Rattle.zone_check.specs.TokensOf.{begins_with_blank}
 use Rattle.zone_check.specs.ValueFindings.{last_long_ttl, max_ttl_finding, minimum_finding}
 use Rattle.zone_check.specs.ZoneFindings.{is_reported_rule, reported_finding, without_repeats}
@@ -171,10 +165,6 @@ inherited_owner = refl
 mail_below_root : rule_findings Rtype.soa (record { begins_blank = false; is_below_root = true }) [] [] (coded_rule SoaMail 1 ∷ []) ≡ []
 mail_below_root = refl
 
--- two are shown, and one that is left out is not counted
-two_shown : decisions_after 2 [] (Some Error ∷ None ∷ Some Warning ∷ Some Error ∷ []) ≡ Shown Error ∷ Omitted ∷ Shown Warning ∷ Counted Error ∷ []
-two_shown = refl
-
 -- ` A 192.0.2.1`
 blank_first : begins_with_blank (codes " A 192.0.2.1\n") ≡ true
 blank_first = refl
@@ -209,37 +199,6 @@ owner_missing_again = refl
 
 too_long : long_finding ≡ finding_at MaxEntry 0 1 Entry
 too_long = refl
-
--- of three findings two are shown, or all
-first_two : first_findings 2 (Error ∷ Warning ∷ Error ∷ []) ≡ Error ∷ Warning ∷ []
-first_two = refl
-
-all_three : first_findings 0 (Error ∷ Warning ∷ Error ∷ []) ≡ Error ∷ Warning ∷ Error ∷ []
-all_three = refl
-
--- of three findings the second is left out: the third is kept after one other
-abbrev found_at : ℕ → FoundFinding
-found_at line = record { file = 0; position = record { line = line; column = 1 }; code = Ttl; is_refused = false; is_excepted = false }
-
-two_counted : counted_after 0 (found_at 7 ∷ found_at 2 ∷ found_at 5 ∷ []) (Some Warning ∷ None ∷ Some Error ∷ []) ≡ kept_finding 0 (found_at 7) Warning ∷ kept_finding 1 (found_at 5) Error ∷ []
-two_counted = refl
-
--- an error comes before a warning by weight, wherever it is, and after it by position
-error_outweighs : weight_order (kept_finding 1 (found_at 9) Error) (kept_finding 0 (found_at 2) Warning) ≡ Less
-error_outweighs = refl
-
-warning_is_before : position_order (kept_finding 0 (found_at 2) Warning) (kept_finding 1 (found_at 9) Error) ≡ Less
-warning_is_before = refl
-
--- at one place the one that was found first comes first
-first_is_before : position_order (kept_finding 0 (found_at 2) Warning) (kept_finding 1 (found_at 2) Error) ≡ Less
-first_is_before = refl
-
-two_are_counted : number_after 0 (Some Warning ∷ None ∷ Some Error ∷ []) ≡ 2
-two_are_counted = refl
-
-left_out : kept_if 3 (found_at 7) None ≡ None
-left_out = refl
 
 -- the fourth record has no glue: at its target, in a zone whose records were all read
 abbrev lost_glue : Finding
@@ -290,3 +249,24 @@ in_rdata = quoted_at 18 (codes "10 ${0,4,n}")
 dot_in_rdata : dot_finding in_rdata (of_name_field (Some Rtype.mx) (dot_part (record { first = 1; last = 2; step = 1 }) in_rdata)) ≡ Some (finding_at GenerateDot 22 8 Token)
 unfolding type_shapes digits
 dot_in_rdata = refl
+
+lint_of_tokens : entry_remarks (codes "a \"b" ++ 0 ∷ 1 ∷ 252 ∷ codes "\"\n" ++ 26 ∷ []) first_reached (Ok (word_piece_at 0 1) ∷ Ok (quote_piece_at 2 8) ∷ Ok (end_at 9 false) ∷ []) ≡ remark 4 Nul ∷ remark 6 HighOctet ∷ remark 5 ControlOctet ∷ remark 9 ControlZ ∷ []
+lint_of_tokens = refl
+
+parentheses : entry_remarks (codes "a (b (c)) (d)\n") first_reached (Ok (word_piece_at 0 1) ∷ Ok (word_piece_at 3 4) ∷ Ok (word_piece_at 6 7) ∷ Ok (word_piece_at 11 12) ∷ Ok (end_at 14 false) ∷ []) ≡ remark 5 NestedParentheses ∷ []
+parentheses = refl
+
+control_in_word : entry_remarks (97 ∷ 7 ∷ 127 ∷ codes "\n") first_reached (Ok (word_piece_at 0 3) ∷ Ok (end_at 4 false) ∷ []) ≡ remark 1 ControlOctet ∷ []
+control_in_word = refl
+
+leading : entry_remarks (codes "a\n(b)\n") first_reached (Ok (word_piece_at 0 1) ∷ Ok (end_at 2 false) ∷ Ok (word_piece_at 3 4) ∷ Ok (end_at 6 false) ∷ []) ≡ remark 2 LeadingParenthesis ∷ []
+leading = refl
+
+adjacent : entry_remarks (codes "a\"b\"\"c\" \"d\";e\n") first_reached (Ok (word_piece_at 0 1) ∷ Ok (quote_piece_at 1 4) ∷ Ok (quote_piece_at 4 7) ∷ Ok (quote_piece_at 8 11) ∷ Ok (comment_at 11 13) ∷ Ok (end_at 14 false) ∷ []) ≡ remark 1 AdjacentTokens ∷ remark 4 AdjacentTokens ∷ []
+adjacent = refl
+
+no_end : unended (codes "a\nb") ≡ remark 3 NoFinalNewline ∷ []
+no_end = refl
+
+ended : unended (codes "a\n") ≡ []
+ended = refl

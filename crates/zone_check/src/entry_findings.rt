@@ -1,9 +1,9 @@
 //! Finds what is reported about an entry.
-ghost use Rattle.std.specs.Prelude.{◌≡◌, ◌++◌, ◌&&◌, not, OnOk, map, true};
+ghost use Rattle.std.specs.Prelude.{◌≡◌, ◌++◌, OnOk, map};
 ghost use Rattle.std.specs.List.{list_any};
 ghost use Rattle.dns_lexer.specs.EntryTokens.{token_seen};
 ghost use Rattle.zone_check.specs.EntryFindings.{begins_with_octet, block_of, has_parameters, has_parameters_if_known, is_control_z_finding, is_directive, is_news, is_of_parameters, is_reported_class, is_scanned, long_finding, record_context, record_in, rejection_finding, reported_of, reports_crlf};
-ghost use Rattle.zone_check.specs.EntryFindings.{AreFindingsOfRecord, AreGenerateFindings, AreOwnOctetFindings, AreParsedFindings, AreReadFindings, AreTokenFindings, FindingsOfEntry, HasNoFindings, HasNoneAsRead, none_as_read};
+ghost use Rattle.zone_check.specs.EntryFindings.{AreFindingsOfRecord, AreGenerateFindings, AreOwnOctetFindings, AreParsedFindings, AreReadFindings, AreTokenFindings, FindingsOfEntry};
 
 use crate::codes::code_of_entry;
 use crate::directive_findings::directive_finding;
@@ -11,6 +11,7 @@ use crate::entry::{EntryContext, EntryKind, ReadEntry};
 use crate::entry_tokens::{begins_blank, tokens_of};
 use crate::finding::{About, EntryFinding, finding_at};
 use crate::generate_findings::generate_finding;
+use crate::lint::Block;
 use crate::octet_findings::{ReportedOctets, find_in_octets};
 use crate::record_findings::{RecordContext, find_in_record};
 use crate::rejection_findings::{fault_finding, rejected_finding};
@@ -21,7 +22,6 @@ use rdata_fields::{RecordError, RecordRef};
 use rdata_values::{Class, RecordType};
 use std::alloc::{AllocError, Global};
 use zone_reader::{RecordTtl, directive_word};
-use zonetext_report::lint::Block;
 
 /// Ctrl-Z, which ended files of CP/M and DOS.
 const CONTROL_Z: u8 = 0x1A;
@@ -364,38 +364,4 @@ pub fn find_in_entry(
         return Ok(());
     }
     find_as_read(alloc, entry, context, found)
-}
-
-/// Returns whether an entry of a kind has no findings, apart from those about its octets. If it
-/// returns `false`, nothing is known.
-fn none_as_read(kind: EntryKind, context: &EntryContext<'_>) -> bool
-    ensures { result ≡ none_as_read kind context.now }
-{
-    match kind {
-        EntryKind::Blank => true,
-        EntryKind::Malformed(_) | EntryKind::TooLong => false,
-        EntryKind::Generate => context.is_text || !context.reports_slips,
-        EntryKind::OneRecord { class, .. } => context.is_text || !is_reported_class(class, context),
-        EntryKind::Directive | EntryKind::Rejected(_) => context.is_text,
-    }
-}
-
-/// Returns whether an entry has no findings, apart from those about its octets. If it returns
-/// `false`, nothing is known.
-pub fn has_none_as_read(entry: &ReadEntry<'_>, context: &EntryContext<'_>) -> bool
-    ensures value { result ≡ none_as_read entry.now.kind context.now }
-    ensures none { result ≡ true → HasNoneAsRead entry.now context.now }
-{
-    none_as_read(entry.kind, context)
-}
-
-/// Returns whether an entry has no findings. If it returns `false`, nothing is known. It does so for
-/// each entry whose octets are in the file.
-#[tactic(auto, using(crate::proofs::NoneSteps::no_findings_if))]
-pub fn has_no_findings(entry: &ReadEntry<'_>, context: &EntryContext<'_>) -> bool
-    ensures value { result ≡ (not (is_scanned entry.now.is_generated entry.now.kind)
-        && none_as_read entry.now.kind context.now) }
-    ensures none { result ≡ true → HasNoFindings entry.now context.now }
-{
-    !is_scanned(entry.is_generated, entry.kind) && has_none_as_read(entry, context)
 }

@@ -3,7 +3,6 @@
 #![tactic(auto)]
 
 pub mod codes;
-pub mod collector;
 pub mod data;
 pub mod directive_findings;
 pub mod entry;
@@ -11,9 +10,8 @@ pub mod entry_findings;
 pub mod entry_tokens;
 pub mod entry_words;
 pub mod finding;
-pub mod finding_order;
 pub mod generate_findings;
-pub mod laws;
+pub mod lint;
 pub mod name_findings;
 pub mod names;
 pub mod octet_findings;
@@ -21,6 +19,5 @@ pub mod record_findings;
 pub mod rejection_findings;
 pub mod rule_findings;
 pub mod scan;
-pub mod shown;
 pub mod value_findings;
 pub mod zone_findings;

@@ -3,10 +3,10 @@ ghost use Rattle.std.specs.Prelude.{◌≡◌, ◌++◌, ◌&&◌, ◌||◌, OnO
 ghost use Rattle.zone_check.specs.OctetFindings.{AreOctetFindings, finding_if, is_control_octet, is_control_z, is_reported, octet_findings, reports};
 
 use crate::finding::{About, EntryFinding, finding_at};
+use crate::lint::{Block, Remark, lint};
 use crate::value_findings::append_any;
 use finding_codes::code::Code;
 use std::alloc::{AllocError, Global};
-use zonetext_report::lint::{Block, Remark, lint};
 
 /// Which findings about octets are reported.
 #[derive(Clone, Copy)]

@@ -12,8 +12,7 @@ use Rattle.zonetext_lib.specs.declared.tokens.CommandError.{CommandError}
 use Rattle.zonetext_lib.specs.declared.tokens.CommandError.TheVariants.{Wrong, OutOfMemory}
 use Rattle.zonetext_lib.specs.Entries.{begins_glued}
 use Rattle.zone_format.specs.Place.{feeds, column_of}
-use Rattle.zonetext_report.specs.declared.json.Charset.TheVariants.{Octets}
-use Rattle.zonetext_report.specs.Json.{json_octet}
+use Rattle.finding_formats.specs.Octets.{json_octet}
 
 -- whether a token is adjacent: before its kind, and as a member
 abbrev pub plain_kind : Bool → List ℕ → List ℕ
@@ -32,7 +31,7 @@ form_head Json line column kind glued = codes "{\"line\":" ++ (decimal line ++ (
 -- a token's row
 abbrev pub token_row : Form → ℕ → ℕ → List ℕ → Bool → List ℕ → List ℕ
 token_row Plain line column kind glued token = form_head Plain line column kind glued ++ token ++ codes "\n"
-token_row Json line column kind glued token = form_head Json line column kind glued ++ flat_map (json_octet Octets) token ++ codes "\"}\n"
+token_row Json line column kind glued token = form_head Json line column kind glued ++ flat_map json_octet token ++ codes "\"}\n"
 
 -- the row of a token of octets that follow `lines` lines
 abbrev pub row_at : List ℕ → ℕ → Form → List ℕ → Bool → ℕ → ℕ → List ℕ

@@ -7,11 +7,10 @@ ghost use Rattle.zonetext_lib.specs.Comparing.{SameUntil, if_both};
 ghost use Rattle.zone_format.specs.Place.{IsAt};
 
 use crate::check::{Found, locate};
-use crate::glue::is_adjacent;
+use crate::glue::{is_adjacent, piece_start};
 use dns_lexer::pieces::{Fault, Piece, Pieces};
 use dns_lexer::position::Position;
 use zone_format::place::position_after;
-use zonetext_report::lint::piece_start;
 
 /// The result of comparing two zone files.
 #[derive(Clone, Copy, PartialEq, Eq)]

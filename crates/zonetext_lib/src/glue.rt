@@ -1,7 +1,20 @@
 //! Adjacent tokens: nothing separates them from the token before them in their entry.
 ghost use Rattle.std.specs.Prelude.{◌≡◌, ◌&&◌, ◌||◌, not};
 ghost use Rattle.std.specs.Option.{is_some};
+ghost use Rattle.dns_lexer.specs.Pieces.{piece_start};
 ghost use Rattle.zonetext_lib.specs.Entries.{begins_glued};
+
+use dns_lexer::pieces::Piece;
+
+/// Returns the offset where a piece begins.
+pub(crate) fn piece_start(piece: Piece) -> usize
+    ensures { result ≡ piece_start piece }
+{
+    match piece {
+        Piece::Word(span) | Piece::Quote(span) | Piece::Comment(span) => span.start,
+        Piece::End(end) => end.at,
+    }
+}
 
 /// Returns whether a token that begins here is adjacent, where `ended` is the end of the token
 /// before it in its entry.

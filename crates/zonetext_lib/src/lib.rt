@@ -10,6 +10,7 @@
 //! - [`diff::diff`] compares the entries of two files.
 //! - [`comparer::Comparer`] compares those of two files that arrive in chunks.
 //! - [`unified::Unified`] writes the changes from one text to another, as a unified diff.
+//! - [`order_mark::order_mark_len`] finds a byte order mark.
 //! - [`progress::progress_share`] says how much of a file was read.
 //! - [`replace::Batch`] replaces the contents of files, of all of them or none.
 //!
@@ -25,6 +26,7 @@ pub mod formatter;
 mod glue;
 pub mod laws;
 pub mod layout;
+pub mod order_mark;
 pub mod progress;
 pub mod replace;
 pub mod tokens;

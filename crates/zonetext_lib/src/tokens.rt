@@ -8,9 +8,9 @@ use crate::glue::is_adjacent;
 use dns_lexer::pieces::{Piece, Pieces};
 use dns_lexer::position::Position;
 use finding_codes::push::{push_number, push_text};
+use finding_formats::octets::push_string;
 use std::alloc::{AllocError, Allocator};
 use zone_format::place::{LocatedOffset, move_to, position_after};
-use zonetext_report::json::{Charset, push_string};
 
 /// The format of a row.
 #[derive(Clone, Copy)]
@@ -110,7 +110,7 @@ fn push_row<A: Allocator>(
             out.extend_from_slice(b"\n")
         }
         Form::Json => {
-            push_string(out, Charset::Octets, token)?;
+            push_string(out, token)?;
             out.extend_from_slice(b"\"}\n")
         }
     }

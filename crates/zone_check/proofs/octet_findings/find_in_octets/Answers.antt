@@ -1,6 +1,6 @@
 use Rattle.std.proofs.Common.{◌≡◌, ◌++◌, subst}
 use Rattle.std.proofs.lemmas.Result.{on_ok_weaker}
-use Rattle.zonetext_report.specs.Lint.{ShowsBlock}
+use Rattle.zone_check.specs.Lint.{ShowsBlock}
 use Rattle.zone_check.specs.OctetFindings.{octet_findings}
 use Rattle.zone_check.proofs.octet_findings.find_in_octets.Goals as goal
 

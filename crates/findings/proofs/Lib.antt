@@ -1,0 +1,9 @@
+pub mod CollectedSteps
+pub mod FindingLawSteps
+pub mod PassedOver
+pub mod PlaceOrders
+pub mod PlacesAlone
+pub mod ShownFirsts
+pub mod ShownLaws
+pub mod ShownSteps
+pub mod StableSorts

@@ -1,5 +1,0 @@
-use Rattle.zone_check.proofs.PlacesAlone.{all_are_by_place}
-use Rattle.zone_check.proofs.laws.all_are_by_place.Goals as goal
-
-pub returns : goal.returns
-returns c = all_are_by_place

@@ -1,5 +1,0 @@
-use Rattle.zonetext_report.proofs.OneLine.{object_is_line}
-use Rattle.zonetext_report.proofs.laws.objects_are_lines.Goals as goal
-
-pub returns : goal.returns
-returns c = object_is_line

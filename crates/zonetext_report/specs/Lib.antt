@@ -1,6 +1,0 @@
-pub mod Excerpt
-pub mod Finding
-pub mod Json
-pub mod Lint
-pub mod Rows
-pub mod Shown
