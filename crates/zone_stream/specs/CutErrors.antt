@@ -5,5 +5,5 @@ use Rattle.zone_stream.specs.declared.cut_error.CutError.TheVariants.{OutOfMemor
 
 abbrev pub cut_error_text : CutError → List ℕ
 cut_error_text OutOfMemory = codes "not enough memory"
-cut_error_text LongTtl = codes "time to live above 2147483647"
+cut_error_text LongTtl = codes "TTL above 2147483647"
 cut_error_text NoRecord = codes "no record"

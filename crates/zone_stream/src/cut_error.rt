@@ -24,7 +24,7 @@ impl CutError {
     {
         match self {
             CutError::OutOfMemory => "not enough memory",
-            CutError::LongTtl => "time to live above 2147483647",
+            CutError::LongTtl => "TTL above 2147483647",
             CutError::NoRecord => "no record",
         }
     }
