@@ -1,13 +1,13 @@
 //! The command `digest`: checks whether the digests in a zone are those of its records.
 use rdata_values::RecordType;
 use std::io;
-use zone_contents::{apex_places, check_digests};
-use zone_set::{CheckError, HashAlgorithm, Selection, Verdict, Zonemd};
+use zone_contents::{CheckError, HashAlgorithm, Verdict, Zonemd, apex_places, check_digests};
+use zone_set::Selection;
 use zonetext_files::lines::Lines;
 use zonetext_files::shown::Shown;
 use zonetext_files::stop::{RunError, exit_status};
 use zonetext_records::json_records::push_json_digest;
-use zonetext_records::stored_records::{StoredRecords, store_records};
+use zonetext_records::stored_records::{Kept, StoredRecords, store_records};
 use zonetext_records::visit::Reading;
 
 /// The scheme SIMPLE.
@@ -132,7 +132,7 @@ fn report_verdicts(
 fn report_none(rt: &HostRuntime, file: &str, verdicts: &[Verdict]) -> io::Result<()> {
     let file = Shown(file);
     if verdicts.is_empty() {
-        eprintln!(rt; "zonetext: {file}: no ZONEMD at the zone's name")
+        eprintln!(rt; "zonetext: {file}: no ZONEMD at the apex")
     } else {
         eprintln!(rt;
             "zonetext: {file}: nothing to verify by: no ZONEMD has a known scheme and hash algorithm"
@@ -156,7 +156,7 @@ fn check(
     let verdicts = match check_digests(alloc, &seen.zone, &stored.zone) {
         Ok(verdicts) => verdicts,
         Err(CheckError::NoSingleSoa) => {
-            eprintln!(rt; "zonetext: {name}: no single SOA at the zone's name")?;
+            eprintln!(rt; "zonetext: {name}: no single SOA at the apex")?;
             return Ok(1);
         }
         Err(CheckError::ShortBuf) => return Err(RunError::OutOfMemory),
@@ -175,7 +175,7 @@ fn check(
 /// there is no single SOA; 3 if the file can't be read.
 #[inline(never)]
 pub fn run(rt: &HostRuntime, file: &str, reading: &Reading<'_>, work: DigestOptions) -> u8 {
-    let stored = match store_records(rt, &[file], reading, Selection::all(), false) {
+    let stored = match store_records(rt, &[file], reading, Selection::all(), Kept::nothing()) {
         Ok(stored) => stored,
         Err(status) => return status,
     };

@@ -8,7 +8,8 @@ use std::alloc::{AllocError, Global};
 use std::fs::File;
 use std::io;
 use std::io::Read;
-use zone_contents::{apex_places, right_data};
+use zone_contents::scope::is_apex;
+use zone_contents::{CheckError, HashAlgorithm, Zonemd, apex_places, right_data};
 use zone_edit::{
     Edit, RecordPlace, SoaError, TokenError, ZonemdEdit, is_of_signed_zone, is_same_zonemd,
     push_entry_after, push_zonemd_edits, soa_place,
@@ -16,8 +17,8 @@ use zone_edit::{
 use zone_reader::NameBuffer;
 use zone_record::{Data, record_of};
 use zone_rules::ZoneRecords;
-use zone_set::scope::is_apex;
-use zone_set::{CheckError, HashAlgorithm, Zonemd, push_record, serial_of};
+use zone_serial::serial_of;
+use zone_set::push_record;
 use zonetext_files::shown::Shown;
 use zonetext_files::stop::{EXIT_IO, RunError, exit_status};
 use zonetext_lib::formatter::{Formatter, NoForm};
@@ -473,7 +474,7 @@ fn refuse(rt: &HostRuntime, file: &str, why: DigestWriteError) -> io::Result<u8>
         }
         DigestWriteError::NoSingleSoa => {
             status = 1;
-            eprintln!(rt; "zonetext: {name}: no single SOA at the zone's name")?;
+            eprintln!(rt; "zonetext: {name}: no single SOA at the apex")?;
         }
         DigestWriteError::Included { what } => {
             eprintln!(rt; "zonetext: {name}: its {what} stands in an included file")?;

@@ -289,13 +289,13 @@ fn report_of(rt: &HostRuntime, names: &[&str], incomplete: &Incomplete) -> io::R
     for (at, file) in names.iter().enumerate() {
         if at < incomplete.replaced {
             let file = Shown(file);
-            eprintln!(rt; "zonetext: {file}: has its form")?;
+            eprintln!(rt; "zonetext: {file}: already formatted")?;
         }
         if at == incomplete.at {
             status = leave(rt, file, &incomplete.why)?;
         } else if at >= incomplete.replaced {
             let file = Shown(file);
-            eprintln!(rt; "zonetext: {file}: is as it was")?;
+            eprintln!(rt; "zonetext: {file}: unchanged")?;
         }
     }
     Ok(status)

@@ -11,8 +11,7 @@ use zone_edit::{
 };
 use zone_reader::NameBuffer;
 use zone_record::owned_record;
-use zone_serial::SerialError;
-use zone_set::serial_of;
+use zone_serial::{SerialError, serial_of};
 use zonetext_files::lines::Lines;
 use zonetext_files::shown::Shown;
 use zonetext_files::stop::{RunError, exit_status};
@@ -20,8 +19,8 @@ use zonetext_files::zone_files::Entry;
 use zonetext_findings::locations::position_at;
 use zonetext_lib::replace::Refusal;
 use zonetext_records::digest_places::data_tokens;
-use zonetext_records::gathered::Lowerer;
 use zonetext_records::json_records::push_json_serial;
+use zonetext_records::lowerer::Lowerer;
 use zonetext_records::visit::{EntryVisitor, Outcome, Reading, visit_entries};
 
 /// An SOA, and its location.

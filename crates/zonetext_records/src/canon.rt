@@ -2,7 +2,7 @@
 use crate::json_records::push_json_record;
 use crate::run_files::RecordVisitor;
 use crate::sorting::{Sorting, gather_sorting};
-use crate::stored_records::{StoredRecords, store_records};
+use crate::stored_records::{Kept, StoredRecords, store_records};
 use crate::visit::Reading;
 use dns_octets::AsOctets;
 use rdata_values::RecordType;
@@ -164,7 +164,11 @@ pub fn run(
     selection: Selection<'_>,
     form: Form,
 ) -> u8 {
-    let stored = match store_records(rt, files, reading, selection, form.is_json) {
+    let kept = Kept {
+        places: form.is_json,
+        spellings: false,
+    };
+    let stored = match store_records(rt, files, reading, selection, kept) {
         Ok(stored) => stored,
         Err(status) => return status,
     };

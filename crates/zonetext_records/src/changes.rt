@@ -1,15 +1,16 @@
 //! The command `diff`: compares the records of two zone files.
 use crate::json_records::push_json_record;
-use crate::stored_records::{StoredRecords, store_records};
+use crate::stored_records::{Kept, StoredRecords, store_records};
 use crate::visit::Reading;
 use rdata_values::RecordType;
 use std::alloc::{AllocError, Global};
 use std::collections::BTreeMap;
 use std::io;
-use zone_contents::{ZoneChange, changes_between_zones};
+use zone_contents::{Change, ZoneChange, changes_between_zones};
 use zone_rules::ZoneRecords;
 use zone_rules::zone_records::{OwnerBuffer, ZoneRecord};
-use zone_set::{Change, Selection, push_change, push_record, serial_rises};
+use zone_serial::is_after;
+use zone_set::{Selection, push_change, push_record};
 use zonetext_checker::checker::SoaInfo;
 use zonetext_files::lines::Lines;
 use zonetext_files::stop::{RunError, exit_status};
@@ -107,7 +108,7 @@ fn write_summary(rt: &HostRuntime, counts: &BTreeMap<u16, Count>) -> io::Result<
 }
 
 /// Returns the record of a zone at an index, if there is one.
-fn record_at<'b>(
+pub(crate) fn record_at<'b>(
     zone: &'b StoredRecords,
     place: usize,
     owner: &'b mut OwnerBuffer,
@@ -258,7 +259,7 @@ pub fn report_serial(
         return Ok(false);
     };
     let (old, new) = (old.serial, new.serial);
-    if serial_rises(old, new) {
+    if is_after(old, new) {
         return Ok(false);
     }
     eprintln!(rt; "zonetext: serial did not rise: {old} -> {new}")?;
@@ -297,8 +298,12 @@ pub fn run(
     selection: Selection<'_>,
     output: Output,
 ) -> u8 {
-    let old = store_records(rt, &[first], reading, selection, output.is_json);
-    let new = store_records(rt, &[second], reading, selection, output.is_json);
+    let kept = Kept {
+        places: output.is_json,
+        spellings: false,
+    };
+    let old = store_records(rt, &[first], reading, selection, kept);
+    let new = store_records(rt, &[second], reading, selection, kept);
     let compared = match (&old, &new) {
         (Ok(old), Ok(new)) => compare(rt, old, new, output),
         (Err(status), Err(other)) => Ok((*status).max(*other)),

@@ -1,5 +1,5 @@
 //! Finds a zone's SOA and its digests in their file.
-use crate::stored_records::{RecordCollector, StoredRecords};
+use crate::stored_records::{Kept, RecordCollector, StoredRecords};
 use crate::visit::{EntryVisitor, Outcome, Reading, visit_entries};
 use dns_lexer::pieces::Span;
 use rdata_fields::{RecordRef, TokenSource};
@@ -110,7 +110,7 @@ pub fn find(
     let alloc = rt.alloc();
     let finder = Finder {
         alloc,
-        collector: RecordCollector::new(alloc, Selection::all(), false),
+        collector: RecordCollector::new(alloc, Selection::all(), Kept::nothing()),
         found: Vec::new(alloc),
     };
     let Outcome {

@@ -5,8 +5,9 @@ use finding_formats::record_json::{
     DigestFields, RecordFields, SerialFields, push_digest, push_fields, push_serial,
 };
 use std::alloc::{AllocError, Global};
+use zone_contents::Zonemd;
 use zone_record::{Record, record_of};
-use zone_set::{Zonemd, push_generic, push_record};
+use zone_set::{push_generic, push_record};
 use zonetext_files::lines::Lines;
 use zonetext_files::stop::{RunError, exit_status};
 use zonetext_files::zone_files::Entry;

@@ -4,15 +4,17 @@
 
 pub mod canon;
 pub mod changes;
+mod chosen_records;
 pub mod cut;
 pub mod digest_places;
-pub mod gathered;
 pub mod json_records;
+pub mod lowerer;
 mod merging;
 pub mod records;
 mod run_files;
 mod sorter;
 mod sorting;
+pub mod spellings;
 pub mod stored_records;
 pub mod update;
 mod update_lines;

@@ -1,5 +1,5 @@
 //! The records of zone files in canonical order, with bounded memory.
-use crate::gathered::Lowerer;
+use crate::lowerer::Lowerer;
 use crate::run_files::RecordVisitor;
 use crate::sorter::Sorter;
 use crate::visit::{EntryVisitor, Outcome, Reading, visit_entries};

@@ -1,4 +1,5 @@
 //! The records of zone files in canonical form and order, in little memory.
+use crate::spellings::Spellings;
 use crate::visit::{EntryVisitor, Outcome, Reading, visit_entries};
 use dns_wire::Name;
 use rdata_fields::RecordRef;
@@ -17,6 +18,7 @@ use zonetext_files::zone_files::Entry;
 pub struct StoredRecords {
     pub zone: StoredZone,
     places: Places,
+    spellings: Spellings,
     /// The first SOA, also if SOAs are omitted.
     pub seen: Option<SoaInfo>,
 }
@@ -84,6 +86,31 @@ impl StoredRecords {
     pub fn place(&self, number: usize) -> Option<(&str, usize)> {
         self.places.get(number)
     }
+
+    /// Returns the owner and the RDATA of the record at an index as they are spelled, if spellings were
+    /// kept and they are not in canonical form.
+    pub fn spelling(&self, place: usize) -> Option<(&[u8], &[u8])> {
+        self.spellings.get(self.number(place))
+    }
+}
+
+/// What is kept of records besides their canonical form.
+#[derive(Clone, Copy)]
+pub struct Kept {
+    /// Where their entries begin.
+    pub places: bool,
+    /// Owners and RDATA as they are spelled.
+    pub spellings: bool,
+}
+
+impl Kept {
+    /// Returns that nothing is kept.
+    pub fn nothing() -> Kept {
+        Kept {
+            places: false,
+            spellings: false,
+        }
+    }
 }
 
 /// Stores the records of files.
@@ -91,11 +118,11 @@ impl StoredRecords {
 pub(crate) struct RecordCollector<'s> {
     alloc: Global,
     selection: Selection<'s>,
-    /// Whether the places of records are kept.
-    keeps_places: bool,
+    kept: Kept,
     /// The records, after the first one.
     store: Option<ZoneStore>,
     places: Places,
+    spellings: Spellings,
     /// The RDATA of a record in canonical form.
     rdata: Vec<u8>,
 }
@@ -117,19 +144,21 @@ fn store_or_empty(alloc: Global, store: Option<ZoneStore>) -> ZoneStore {
     }
 }
 
+/// Returns whether a name in wire format has a capital letter. Lengths of labels are below all letters.
+fn has_capitals(name: &[u8]) -> bool {
+    name.iter().any(u8::is_ascii_uppercase)
+}
+
 impl<'s> RecordCollector<'s> {
     /// Returns a collection before the first record.
-    pub(crate) fn new(
-        alloc: Global,
-        selection: Selection<'s>,
-        keeps_places: bool,
-    ) -> RecordCollector<'s> {
+    pub(crate) fn new(alloc: Global, selection: Selection<'s>, kept: Kept) -> RecordCollector<'s> {
         RecordCollector {
             alloc,
             selection,
-            keeps_places,
+            kept,
             store: None,
             places: Places::new(alloc),
+            spellings: Spellings::new(alloc),
             rdata: Vec::new(alloc),
         }
     }
@@ -158,8 +187,11 @@ impl RecordCollector<'_> {
         let Some(store) = &mut self.store else {
             return Err(RunError::Damaged);
         };
-        let number = store.len() as u64;
-        store.add(&record, 0, number)?;
+        let number = store.len();
+        store.add(&record, 0, number as u64)?;
+        if self.kept.spellings && (has_capitals(given.owner) || given.data != canonical.data) {
+            self.spellings.add(number, given.owner, given.data)?;
+        }
         Ok(())
     }
 }
@@ -172,7 +204,7 @@ impl EntryVisitor for RecordCollector<'_> {
         if !self.selection.includes(given.rtype) {
             return Ok(());
         }
-        if self.keeps_places {
+        if self.kept.places {
             self.places.add(self.alloc, entry)?;
         }
         self.add(&given)
@@ -186,22 +218,22 @@ impl RecordCollector<'_> {
         StoredRecords {
             zone: store.sort(),
             places: self.places,
+            spellings: self.spellings,
             seen,
         }
     }
 }
 
-/// Returns the selected records of files, in canonical form and order, with their places if these
-/// are kept. If an entry is rejected, that is reported, and the status is returned in place of them:
+/// Returns the selected records of files, in canonical form and order, and what is kept besides. If an entry is rejected, that is reported, and the status is returned in place of them:
 /// 1, or 3 if a file can't be read.
 pub fn store_records(
     rt: &HostRuntime,
     files: &[&str],
     reading: &Reading<'_>,
     selection: Selection<'_>,
-    keeps_places: bool,
+    kept: Kept,
 ) -> Result<StoredRecords, u8> {
-    let collector = RecordCollector::new(rt.alloc(), selection, keeps_places);
+    let collector = RecordCollector::new(rt.alloc(), selection, kept);
     let Outcome {
         status,
         seen,

@@ -1,7 +1,8 @@
 //! The command `diff --nsupdate`: writes the changes from one zone to another as commands of
 //! nsupdate.
-use crate::changes::{UNFIT, report_serial};
-use crate::gathered::{Gathered, NumberedRecord, gather};
+use crate::changes::{UNFIT, record_at, report_serial};
+use crate::chosen_records::{ByPlace, RecordChange, SpelledRecord, choose, record_changes};
+use crate::stored_records::{Kept, StoredRecords, store_records};
 use crate::update_lines::{is_long, push_without_ttl, record_text};
 use crate::visit::Reading;
 use dns_octets::AsOctets;
@@ -10,14 +11,16 @@ use rdata_values::{Class, RecordType};
 use std::alloc::{AllocError, Global};
 use std::collections::BTreeMap;
 use std::io;
+use zone_contents::scope::is_in_zone;
+use zone_contents::{Change, changes_between_zones};
 use zone_reader::NameBuffer;
 use zone_record::Record;
+use zone_rules::ZoneRecords;
 use zone_rules::host_names::is_no_host_name;
-use zone_rules::zone_records::borrowed_record;
-use zone_set::scope::is_in_zone;
-use zone_set::{Change, Selection, TaggedOctets, changes_between};
+use zone_rules::zone_records::{OwnerBuffer, borrowed_record};
+use zone_set::Selection;
 use zone_update::{
-    Operation, UpdateError, allows_messages, in_one_rrset, is_sent, messages_of, push_operations,
+    Operation, UpdateError, allows_messages, is_sent, messages_of, push_operations,
     push_server_names, wire_size,
 };
 use zonetext_files::lines::Lines;
@@ -48,24 +51,22 @@ pub struct Work {
 }
 
 /// An operation of an update on a record.
-type NumberedOperation<'r, 'h> = Operation<'r, TaggedOctets<'h, usize>, &'h [u8]>;
+type RecordOperation<'r, 'h> = Operation<'r, &'h [u8], &'h [u8]>;
 
-/// A difference between two zones.
-type NumberedChange<'r, 'h> = Change<'r, TaggedOctets<'h, usize>, &'h [u8]>;
-
-/// A zone file, and its records.
+/// A zone file, its records, and those that an update is made from: the changed ones, SOAs, and NS records
+/// of the apex.
 #[derive(Clone, Copy)]
 struct Side<'r, 'h> {
     file: &'r str,
-    gathered: &'r Gathered,
-    records: &'r [NumberedRecord<'h>],
+    stored: &'r StoredRecords,
+    records: &'r [SpelledRecord<'h>],
 }
 
 /// Returns the SOA of a zone. If it has none or several, that is reported.
 fn soa_of<'r, 'h>(
     rt: &HostRuntime,
     side: &Side<'r, 'h>,
-) -> io::Result<Option<&'r NumberedRecord<'h>>> {
+) -> io::Result<Option<&'r SpelledRecord<'h>>> {
     let file = Shown(side.file);
     let mut found = None;
     for one in side.records {
@@ -95,35 +96,101 @@ fn refuse<Owner: AsOctets, Octets: AsOctets>(
     Ok(UNFIT)
 }
 
-/// Returns the first record whose RRset has another TTL in the record after it, if an update has
+/// The TTL of a record, and what its RRset is known by besides the owner. It has numbers alone, so that
+/// it is copied.
+#[derive(Clone, Copy)]
+struct RrsetTtl {
+    /// Index of the record, or the greatest one if there is none.
+    place: usize,
+    ttl: u32,
+    class: u16,
+    rtype: u16,
+}
+
+/// Returns whether two records of a zone are of one RRset, with different TTLs. The first one is before
+/// the other.
+fn have_other_ttls(stored: &StoredRecords, before: &RrsetTtl, one: &RrsetTtl) -> bool {
+    before.ttl != one.ttl
+        && before.class == one.class
+        && before.rtype == one.rtype
+        && before.place < one.place
+        && one.place < stored.zone.len()
+        && stored.zone.have_one_owner(before.place, one.place)
+}
+
+/// Returns the TTL of the record at an index, or of none.
+fn rrset_ttl(stored: &StoredRecords, place: usize) -> RrsetTtl {
+    if place >= stored.zone.len() {
+        return RrsetTtl {
+            place: usize::MAX,
+            ttl: 0,
+            class: 0,
+            rtype: 0,
+        };
+    }
+    let mut buffer = OwnerBuffer::new();
+    let record = stored.zone.record(place, &mut buffer);
+    RrsetTtl {
+        place,
+        ttl: record.ttl,
+        class: record.class.0,
+        rtype: record.data.rtype().0,
+    }
+}
+
+/// Returns whether two records of a zone are of one RRset, with different TTLs, and an update has
 /// operations on it.
-fn mixed_ttl<'r, 'h>(
-    records: &'r [NumberedRecord<'h>],
-    has_keys: bool,
-) -> Option<&'r NumberedRecord<'h>> {
-    let mut last: Option<&NumberedRecord<'h>> = None;
-    for one in records {
-        if let Some(before) = last {
-            if before.ttl != one.ttl
-                && is_sent(has_keys, one.data.rtype())
-                && in_one_rrset(before, one)
-            {
-                return Some(before);
+fn is_mixed(stored: &StoredRecords, has_keys: bool, before: &RrsetTtl, one: &RrsetTtl) -> bool {
+    is_sent(has_keys, RecordType(one.rtype)) && have_other_ttls(stored, before, one)
+}
+
+/// Returns the index of the first record whose RRset has another TTL in the record after it, if an
+/// update has operations on it.
+fn mixed_ttl(stored: &StoredRecords, has_keys: bool) -> Option<usize> {
+    let mut before = rrset_ttl(stored, usize::MAX);
+    for place in 0..stored.zone.len() {
+        if !stored.zone.is_duplicate(place) {
+            let one = rrset_ttl(stored, place);
+            if is_mixed(stored, has_keys, &before, &one) {
+                return Some(before.place);
             }
+            before = one;
         }
-        last = Some(one);
     }
     None
 }
 
+/// Reports an RRset with different TTLs.
+fn report_mixed(rt: &HostRuntime, file: &str, owner: &[u8], rtype: RecordType) -> io::Result<()> {
+    let (file, owner) = (Shown(file), NameText(owner));
+    eprintln!(rt; "zonetext: {file}: {owner} {rtype}: different TTLs in an RRset")
+}
+
+/// Reports that the RRset of the record at an index has different TTLs, with the owner as it is spelled.
+fn report_mixed_at(
+    rt: &HostRuntime,
+    file: &str,
+    stored: &StoredRecords,
+    place: usize,
+) -> Result<(), RunError> {
+    let mut buffer = OwnerBuffer::new();
+    let record = record_at(stored, place, &mut buffer)?;
+    let rtype = record.data.rtype();
+    if let Some((owner, _)) = stored.spelling(place) {
+        report_mixed(rt, file, owner, rtype)?;
+        return Ok(());
+    }
+    report_mixed(rt, file, record.owner.as_slice(), rtype)?;
+    Ok(())
+}
+
 /// Reports an RRset of a zone with different TTLs, and returns whether there is one.
-fn has_mixed_ttls(rt: &HostRuntime, side: &Side<'_, '_>, work: Work) -> io::Result<bool> {
-    let Some(one) = mixed_ttl(side.records, work.has_keys) else {
+fn has_mixed_ttls(rt: &HostRuntime, side: &Side<'_, '_>, work: Work) -> Result<bool, RunError> {
+    let (file, stored) = (side.file, side.stored);
+    let Some(place) = mixed_ttl(stored, work.has_keys) else {
         return Ok(false);
     };
-    let file = Shown(side.file);
-    let (owner, rtype) = (NameText(one.owner.as_slice()), one.data.rtype());
-    eprintln!(rt; "zonetext: {file}: {owner} {rtype}: different TTLs in an RRset")?;
+    report_mixed_at(rt, file, stored, place)?;
     Ok(true)
 }
 
@@ -131,8 +198,8 @@ fn has_mixed_ttls(rt: &HostRuntime, side: &Side<'_, '_>, work: Work) -> io::Resu
 fn zone_of(
     reading: &Reading<'_>,
     file: &str,
-    old: &Gathered,
-    new: &Gathered,
+    old: &StoredRecords,
+    new: &StoredRecords,
 ) -> Option<NameBuffer> {
     if reading.zone.is_set() {
         return reading.zone.origin(file);
@@ -144,7 +211,7 @@ fn zone_of(
 }
 
 /// Returns the number of octets of a record in wire format, or 0 if there is none.
-fn size_of(one: Option<&NumberedRecord<'_>>) -> usize {
+fn size_of(one: Option<&SpelledRecord<'_>>) -> usize {
     match one {
         Some(one) => {
             let sizes = one.owner.len().saturating_add(one.data.as_slice().len());
@@ -158,7 +225,7 @@ fn size_of(one: Option<&NumberedRecord<'_>>) -> usize {
 fn has_unfit(
     rt: &HostRuntime,
     zone: &NameBuffer,
-    operations: &[NumberedOperation<'_, '_>],
+    operations: &[RecordOperation<'_, '_>],
 ) -> Result<bool, RunError> {
     for operation in operations {
         let one = operation.record();
@@ -175,7 +242,7 @@ fn has_unfit(
 }
 
 /// Reports records that nsupdate rejects because a name must be a host name, and isn't one.
-fn report_host_names(rt: &HostRuntime, operations: &[NumberedOperation<'_, '_>]) -> io::Result<()> {
+fn report_host_names(rt: &HostRuntime, operations: &[RecordOperation<'_, '_>]) -> io::Result<()> {
     for operation in operations {
         let Operation::Add(one) = *operation else {
             continue;
@@ -191,7 +258,7 @@ fn report_host_names(rt: &HostRuntime, operations: &[NumberedOperation<'_, '_>])
 /// Returns the number of changes of each type that an update leaves out, by the type's number.
 fn omitted_changes(
     alloc: Global,
-    changes: &[NumberedChange<'_, '_>],
+    changes: &[RecordChange<'_, '_>],
     has_keys: bool,
 ) -> Result<BTreeMap<u16, usize>, AllocError> {
     let mut counts = BTreeMap::new(alloc);
@@ -228,7 +295,7 @@ fn push_head(
     text: &mut String,
     zone: &NameBuffer,
     class: Class,
-    prereq: Option<&NumberedRecord<'_>>,
+    prereq: Option<&SpelledRecord<'_>>,
 ) -> Result<(), AllocError> {
     let name = NameText(zone.as_slice());
     writeln!(text, "zone {name}")?;
@@ -245,7 +312,7 @@ fn push_head(
 /// Appends the command of an operation.
 fn push_operation(
     text: &mut String,
-    operation: &NumberedOperation<'_, '_>,
+    operation: &RecordOperation<'_, '_>,
 ) -> Result<(), AllocError> {
     match *operation {
         Operation::Delete(one) => {
@@ -264,7 +331,7 @@ fn push_operation(
 /// Writes the commands of messages.
 fn write_messages(
     lines: &mut Lines<'_>,
-    messages: &[Vec<NumberedOperation<'_, '_>>],
+    messages: &[Vec<RecordOperation<'_, '_>>],
 ) -> Result<(), RunError> {
     for message in messages {
         for operation in message {
@@ -280,8 +347,8 @@ fn write_messages(
 /// Returns whether the serial rises by the number of messages. If not, that is reported.
 fn fits_messages(
     rt: &HostRuntime,
-    old: &Gathered,
-    new: &Gathered,
+    old: &StoredRecords,
+    new: &StoredRecords,
     count: usize,
 ) -> io::Result<bool> {
     let (Some(old), Some(new)) = (&old.seen, &new.seen) else {
@@ -300,8 +367,8 @@ fn fits_messages(
 /// The SOAs of an update: the one that the server must have, and the one that it gets.
 #[derive(Clone, Copy)]
 struct Soas<'r, 'h> {
-    required: Option<&'r NumberedRecord<'h>>,
-    added: Option<&'r NumberedRecord<'h>>,
+    required: Option<&'r SpelledRecord<'h>>,
+    added: Option<&'r SpelledRecord<'h>>,
 }
 
 /// Returns the SOAs of an update, or `None` if one is missing or the serial did not rise, which is
@@ -328,7 +395,7 @@ fn soas_of<'r, 'h>(
         let Some(one) = soa_of(rt, new)? else {
             return Ok(None);
         };
-        if report_serial(rt, &old.gathered.seen, &new.gathered.seen)? {
+        if report_serial(rt, &old.stored.seen, &new.stored.seen)? {
             return Ok(None);
         }
         soas.added = Some(one);
@@ -340,7 +407,7 @@ fn soas_of<'r, 'h>(
 const MOST_NAMES: usize = 1_000;
 
 /// Returns the number of octets of operations in wire format.
-fn total_size(operations: &[NumberedOperation<'_, '_>]) -> usize {
+fn total_size(operations: &[RecordOperation<'_, '_>]) -> usize {
     let mut total: usize = 0;
     for operation in operations {
         total = total.saturating_add(wire_size(operation));
@@ -352,7 +419,7 @@ fn total_size(operations: &[NumberedOperation<'_, '_>]) -> usize {
 /// such a record if its target is in the zone and has no address there, so addresses of targets are
 /// added in the first message.
 fn push_targets<'r>(
-    operations: &[NumberedOperation<'r, '_>],
+    operations: &[RecordOperation<'r, '_>],
     limit: usize,
     names: &mut Vec<&'r [u8]>,
 ) -> Result<(), AllocError> {
@@ -400,7 +467,7 @@ impl<'r, 'h> Frame<'r, 'h> {
     /// and targets of MX.
     fn push_first_names(
         &self,
-        operations: &[NumberedOperation<'r, 'h>],
+        operations: &[RecordOperation<'r, 'h>],
         names: &mut Vec<&'r [u8]>,
     ) -> Result<(), AllocError> {
         names.push(self.zone.as_slice())?;
@@ -413,8 +480,8 @@ impl<'r, 'h> Frame<'r, 'h> {
     fn messages(
         &self,
         alloc: Global,
-        operations: &[NumberedOperation<'r, 'h>],
-    ) -> Result<Vec<Vec<NumberedOperation<'r, 'h>>>, UpdateError> {
+        operations: &[RecordOperation<'r, 'h>],
+    ) -> Result<Vec<Vec<RecordOperation<'r, 'h>>>, UpdateError> {
         let mut names = Vec::new(alloc);
         if self.push_first_names(operations, &mut names).is_err() {
             return Err(UpdateError::OutOfMemory);
@@ -433,9 +500,9 @@ impl<'r, 'h> Frame<'r, 'h> {
 /// Returns the operations that make changes.
 fn operations_of<'r, 'h>(
     alloc: Global,
-    changes: &[NumberedChange<'r, 'h>],
+    changes: &[RecordChange<'r, 'h>],
     has_keys: bool,
-) -> Result<Vec<NumberedOperation<'r, 'h>>, AllocError> {
+) -> Result<Vec<RecordOperation<'r, 'h>>, AllocError> {
     let mut operations = Vec::new(alloc);
     push_operations(changes, has_keys, &mut operations)?;
     Ok(operations)
@@ -446,7 +513,7 @@ fn write_lines(
     lines: &mut Lines<'_>,
     frame: &Frame<'_, '_>,
     omitted: &BTreeMap<u16, usize>,
-    messages: &[Vec<NumberedOperation<'_, '_>>],
+    messages: &[Vec<RecordOperation<'_, '_>>],
 ) -> Result<(), RunError> {
     push_comments(&mut lines.text, omitted, messages.len())?;
     if !messages.is_empty() {
@@ -464,8 +531,8 @@ fn write_lines(
 fn write_commands(
     rt: &HostRuntime,
     frame: &Frame<'_, '_>,
-    changes: &[NumberedChange<'_, '_>],
-    messages: &[Vec<NumberedOperation<'_, '_>>],
+    changes: &[RecordChange<'_, '_>],
+    messages: &[Vec<RecordOperation<'_, '_>>],
 ) -> Result<(), RunError> {
     let omitted = omitted_changes(rt.alloc(), changes, frame.work.has_keys)?;
     let mut lines = Lines::new(rt);
@@ -477,11 +544,11 @@ fn write_commands(
 fn write_fitting(
     rt: &HostRuntime,
     frame: &Frame<'_, '_>,
-    changes: &[NumberedChange<'_, '_>],
-    operations: &[NumberedOperation<'_, '_>],
-    messages: &[Vec<NumberedOperation<'_, '_>>],
+    changes: &[RecordChange<'_, '_>],
+    operations: &[RecordOperation<'_, '_>],
+    messages: &[Vec<RecordOperation<'_, '_>>],
 ) -> Result<u8, RunError> {
-    let (old, new) = (frame.old.gathered, frame.new.gathered);
+    let (old, new) = (frame.old.stored, frame.new.stored);
     if frame.work.has_soa && !fits_messages(rt, old, new, messages.len())? {
         return Ok(UNFIT);
     }
@@ -494,8 +561,8 @@ fn write_fitting(
 fn write_operations<'r, 'h>(
     rt: &HostRuntime,
     frame: &Frame<'r, 'h>,
-    changes: &[NumberedChange<'r, 'h>],
-    operations: &[NumberedOperation<'r, 'h>],
+    changes: &[RecordChange<'r, 'h>],
+    operations: &[RecordOperation<'r, 'h>],
 ) -> Result<u8, RunError> {
     if has_unfit(rt, frame.zone, operations)? {
         return Ok(UNFIT);
@@ -516,7 +583,7 @@ fn write_operations<'r, 'h>(
 fn write_changes<'r, 'h>(
     rt: &HostRuntime,
     frame: &Frame<'r, 'h>,
-    changes: &[NumberedChange<'r, 'h>],
+    changes: &[RecordChange<'r, 'h>],
 ) -> Result<u8, RunError> {
     let operations = operations_of(rt.alloc(), changes, frame.work.has_keys)?;
     write_operations(rt, frame, changes, operations.as_slice())
@@ -531,7 +598,7 @@ fn write_update<'r, 'h>(
     zone: Option<&'r NameBuffer>,
     class: Class,
     work: Work,
-    changes: &[NumberedChange<'r, 'h>],
+    changes: &[RecordChange<'r, 'h>],
 ) -> Result<u8, RunError> {
     if changes.is_empty() {
         return Ok(0);
@@ -557,36 +624,39 @@ fn write_update<'r, 'h>(
     write_changes(rt, &frame, changes)
 }
 
-/// Returns a zone file with its records.
-fn side_of<'r, 'h>(
-    file: &'r str,
-    gathered: &'r Gathered,
-    records: &'r [NumberedRecord<'h>],
-) -> Side<'r, 'h> {
-    Side {
-        file,
-        gathered,
-        records,
-    }
-}
-
 /// Compares two zones, and writes the update from one to the other.
-fn compare<'g>(
+fn compare(
     rt: &HostRuntime,
-    files: (&'g str, &'g str),
-    old: &'g Gathered,
-    new: &'g Gathered,
+    files: (&str, &str),
+    old: &StoredRecords,
+    new: &StoredRecords,
     reading: &Reading<'_>,
     work: Work,
 ) -> Result<u8, RunError> {
-    let (old_set, _) = old.set()?;
-    let (new_set, _) = new.set()?;
-    let changes = changes_between(rt.alloc(), &old_set, &new_set)?;
+    let alloc = rt.alloc();
+    let changes = changes_between_zones(alloc, &old.zone, &new.zone)?;
     let zone = zone_of(reading, files.0, old, new);
+    let old_chosen = choose(alloc, old, zone.as_ref(), changes.as_slice(), true)?;
+    let new_chosen = choose(alloc, new, zone.as_ref(), changes.as_slice(), false)?;
+    let old_records = old_chosen.records(alloc, old)?;
+    let new_records = new_chosen.records(alloc, new)?;
+    let old_by_place = ByPlace::new(old_chosen.places.as_slice(), old_records.as_slice());
+    let new_by_place = ByPlace::new(new_chosen.places.as_slice(), new_records.as_slice());
+    let changes = record_changes(alloc, old_by_place, new_by_place, changes.as_slice())?;
+    let old_side = Side {
+        file: files.0,
+        stored: old,
+        records: old_records.as_slice(),
+    };
+    let new_side = Side {
+        file: files.1,
+        stored: new,
+        records: new_records.as_slice(),
+    };
     write_update(
         rt,
-        side_of(files.0, old, old_set.as_slice()),
-        side_of(files.1, new, new_set.as_slice()),
+        old_side,
+        new_side,
         zone.as_ref(),
         reading.class,
         work,
@@ -603,8 +673,12 @@ pub fn run(rt: &HostRuntime, first: &str, second: &str, reading: &Reading<'_>, w
         without_dnssec: !work.has_signing,
         ..Selection::all()
     };
-    let old = gather(rt, &[first], reading, selection);
-    let new = gather(rt, &[second], reading, selection);
+    let kept = Kept {
+        places: false,
+        spellings: true,
+    };
+    let old = store_records(rt, &[first], reading, selection, kept);
+    let new = store_records(rt, &[second], reading, selection, kept);
     let compared = match (&old, &new) {
         (Ok(old), Ok(new)) => compare(rt, (first, second), old, new, reading, work),
         (Err(status), Err(other)) => Ok((*status).max(*other)),
