@@ -2,7 +2,7 @@
 mod record_checks;
 mod zone_checks;
 
-use crate::findings::Findings;
+use crate::finding_reports::Findings;
 use crate::held_zone::{HeldZone, RecordLocation, SortedZone};
 use crate::lone_rules::breaks_none;
 use crate::refusals::refused_type;

@@ -1,5 +1,5 @@
 //! Findings about records that delegations hide: addresses are one finding, with their number.
-use crate::findings::Findings;
+use crate::finding_reports::Findings;
 use crate::held_zone::RecordLocation;
 use crate::rule_texts::{CheckedZone, is_address, is_before};
 use dns_octets::AsOctets;

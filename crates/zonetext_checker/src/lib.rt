@@ -3,11 +3,10 @@
 
 pub mod checker;
 mod entry_texts;
-mod findings;
+mod finding_reports;
 mod held_zone;
 mod hidden_zone;
 mod lone_rules;
-pub mod record_arena;
 mod refusals;
 mod refused_sets;
 mod rule_texts;

@@ -18,7 +18,7 @@ use zone_format::place::LocatedOffset;
 use zone_generate::{DirectiveTokens, Generate};
 use zone_reader::{NameBuffer, NameState, ParsedEntry, State, include_parts, read_text_entry};
 use zone_stream::{BlockReader, BlockRefusal};
-use zonetext_report::lint::order_mark_len;
+use zonetext_lib::order_mark::order_mark_len;
 
 /// Greatest number of open files that others include.
 const MOST_INCLUDED: usize = 10;

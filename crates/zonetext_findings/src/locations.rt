@@ -7,6 +7,7 @@ use dns_lexer::entry_tokens::{EntryPart, EntryToken, EntryTokens};
 use dns_lexer::pieces::{Fault, Wrong};
 use dns_lexer::position::Position;
 use dns_lexer::unclosed::outermost_open_of_octets;
+use finding_formats::excerpt::{LinePart, part_around};
 use rdata_values::RecordType;
 use std::alloc::{AllocError, Global};
 use zone_check::entry_tokens;
@@ -36,6 +37,14 @@ pub fn begins_blank(entry: &Entry<'_>) -> bool {
     entry_tokens::begins_blank(entry.octets)
 }
 
+/// Returns a whole line, and a column of it.
+fn whole_line<'s>(line: Option<&'s [u8]>, column: usize) -> Option<LinePart<'s>> {
+    match line {
+        Some(octets) => Some(LinePart { octets, column }),
+        None => None,
+    }
+}
+
 /// Returns a column of a line, with the line. `number` is that of the file.
 pub fn line_spot<'s>(
     file: &'s str,
@@ -49,7 +58,7 @@ pub fn line_spot<'s>(
         position,
         end_column: position.column.saturating_add(1),
         opened: None,
-        line,
+        line: whole_line(line, position.column),
         generated: None,
     }
 }
@@ -247,13 +256,18 @@ pub struct Line<'e> {
     /// Offset of its LF, or of the end of the octets if it has none.
     end: usize,
     /// The line without its end.
-    pub octets: &'e [u8],
+    octets: &'e [u8],
 }
 
 impl<'e> Line<'e> {
     /// Returns whether an offset is in the line.
     pub fn contains(&self, at: usize) -> bool {
         self.start <= at && at <= self.end
+    }
+
+    /// Returns the part of the line around an offset that may be shown.
+    fn part(&self, at: usize) -> LinePart<'e> {
+        part_around(self.octets, at.saturating_sub(self.start))
     }
 }
 
@@ -281,7 +295,7 @@ fn directive_spot<'e>(entry: &Entry<'e>, generated: Generated<'e>) -> FindingLoc
         position,
         end_column: position.column.saturating_add(DIRECTIVE.len()),
         opened: None,
-        line: Some(line_at(generated.held, 0).octets),
+        line: Some(line_at(generated.held, 0).part(0)),
         generated: Some(generated.number),
     }
 }
@@ -322,7 +336,7 @@ pub fn located<'e>(
         position,
         end_column: end_column(entry, at, position, width),
         opened: None,
-        line: Some(line.octets),
+        line: Some(line.part(at)),
         generated: None,
     }
 }

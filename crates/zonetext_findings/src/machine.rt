@@ -1,12 +1,11 @@
 //! Findings in formats for other programs.
+use crate::finding_copy::copied;
 use clap::ArgMatches;
-use finding_codes::code::Severity;
 use finding_codes::table::rows;
 use finding_formats::sarif::{Rule, Tool};
-use finding_formats::{Opening, checkstyle, github, json, sarif};
+use finding_formats::{Finding, checkstyle, github, json, sarif};
 use finding_texts::{summary_of, text_of};
 use std::alloc::AllocError;
-use zonetext_report::finding::Finding;
 
 /// The version of the program.
 pub const VERSION: &str = "0.2.0";
@@ -48,48 +47,6 @@ pub fn asked(inner: &ArgMatches) -> Option<Format> {
     Format::named(inner.get_str("format")?)
 }
 
-/// Returns whether a severity is that of an error.
-fn is_error(severity: Severity) -> bool {
-    severity == Severity::Error
-}
-
-/// Returns the octets of a text, unless it is empty.
-fn known(text: &str) -> Option<&[u8]> {
-    if text.is_empty() {
-        None
-    } else {
-        Some(text.as_bytes())
-    }
-}
-
-/// Returns a finding as the formats have it.
-fn formatted<'a>(finding: &'a Finding<'a>, generated: Option<u32>) -> finding_formats::Finding<'a> {
-    let opened = match finding.opened {
-        Some(position) => Some(Opening {
-            line: position.line,
-            column: position.column,
-        }),
-        None => None,
-    };
-    finding_formats::Finding {
-        file: finding.file.as_bytes(),
-        line: finding.position.line,
-        column: finding.position.column,
-        end_column: finding.end_column,
-        opened,
-        generate: match generated {
-            Some(number) => Some(number as usize),
-            None => None,
-        },
-        is_error: is_error(finding.severity),
-        code: finding.code.name().as_bytes(),
-        owner: known(finding.owner),
-        rtype: known(finding.rtype),
-        message: finding.message.as_bytes(),
-        help: known(finding.help),
-    }
-}
-
 /// Appends what comes before the findings of all files.
 pub fn push_start(out: &mut Vec<u8>, format: Format) -> Result<(), AllocError> {
     match format {
@@ -109,8 +66,8 @@ fn push_sarif_start(out: &mut Vec<u8>) -> Result<(), AllocError> {
     let mut is_first = true;
     for row in rows() {
         let rule = Rule {
-            code: row.name.as_bytes(),
-            is_error: is_error(row.severity),
+            code: row.code,
+            severity: row.severity,
             summary: summary_of(row.code).as_bytes(),
             text: text_of(row.code).as_bytes(),
         };
@@ -135,7 +92,7 @@ pub struct Before {
     /// Whether there is a finding before, in this file or one that was checked before.
     pub has_finding: bool,
     /// Name of the file of the finding before, while its element of a report is open.
-    file: Option<String>,
+    file: Option<Vec<u8>>,
 }
 
 impl Before {
@@ -153,14 +110,12 @@ impl Before {
         out: &mut Vec<u8>,
         format: Format,
         finding: &Finding<'_>,
-        generated: Option<u32>,
     ) -> Result<(), AllocError> {
-        let formatted = formatted(finding, generated);
         match format {
-            Format::Json => json::push_finding(out, &formatted)?,
-            Format::Github => github::push_finding(out, &formatted)?,
-            Format::Sarif => sarif::push_finding(out, !self.has_finding, &formatted)?,
-            Format::Checkstyle => self.push_checkstyle(out, finding.file, &formatted)?,
+            Format::Json => json::push_finding(out, finding)?,
+            Format::Github => github::push_finding(out, finding)?,
+            Format::Sarif => sarif::push_finding(out, !self.has_finding, finding)?,
+            Format::Checkstyle => self.push_checkstyle(out, finding)?,
         }
         self.has_finding = true;
         Ok(())
@@ -170,14 +125,13 @@ impl Before {
     fn push_checkstyle(
         &mut self,
         out: &mut Vec<u8>,
-        file: &str,
-        finding: &finding_formats::Finding<'_>,
+        finding: &Finding<'_>,
     ) -> Result<(), AllocError> {
         match &self.file {
-            Some(before) => checkstyle::push_finding(out, Some(before.as_bytes()), finding)?,
+            Some(before) => checkstyle::push_finding(out, Some(before.as_slice()), finding)?,
             None => checkstyle::push_finding(out, None, finding)?,
         }
-        self.file = Some(String::from_str(*out.allocator(), file)?);
+        self.file = Some(copied(*out.allocator(), finding.file)?);
         Ok(())
     }
 

@@ -6,14 +6,15 @@ use dns_lexer::position::Position;
 use finding_codes::code::Code;
 use finding_codes::policy::Policy;
 use finding_codes::tally::Tally;
+use finding_formats::Finding;
+use finding_formats::excerpt::{LinePart, push_excerpt};
+use finding_formats::lines::push_lines;
+use findings::collector::{FindingCollector, FoundFinding, kept_finding};
+use findings::finding_order::{Kept, KeptFinding};
+use findings::shown::{Decision, can_be_excepted, decide, severity_of};
 use std::alloc::{AllocError, Global};
 use std::io::Write;
-use zone_check::collector::{FindingCollector, FoundFinding, kept_finding};
-use zone_check::finding_order::{Kept, KeptFinding};
-use zone_check::shown::{Decision, can_be_excepted, decide, severity_of};
 use zonetext_files::stop::RunError;
-use zonetext_report::excerpt::push_excerpt;
-use zonetext_report::finding::{Finding, push_lines};
 
 /// How findings are shown.
 #[derive(Clone, Copy, PartialEq, Eq)]
@@ -37,8 +38,8 @@ pub struct FindingLocation<'s> {
     pub position: Position,
     pub end_column: usize,
     pub opened: Option<Position>,
-    /// The line of the file, without its end, if it is known.
-    pub line: Option<&'s [u8]>,
+    /// The line of the file, without its end, as far as it may be shown, if it is known.
+    pub line: Option<LinePart<'s>>,
     /// Number of the entry, if it is generated.
     pub generated: Option<u32>,
 }
@@ -80,6 +81,23 @@ fn generated_message(
     match generated {
         Some(number) => Ok(Some(format!(in alloc; "$GENERATE {number}: {message}")?)),
         None => Ok(None),
+    }
+}
+
+/// Returns the octets of a text, unless it is empty.
+fn known(text: &str) -> Option<&[u8]> {
+    if text.is_empty() {
+        None
+    } else {
+        Some(text.as_bytes())
+    }
+}
+
+/// Returns the number of a generated entry, as findings have it.
+fn generate_of(generated: Option<u32>) -> Option<usize> {
+    match generated {
+        Some(number) => Some(number as usize),
+        None => None,
     }
 }
 
@@ -181,7 +199,7 @@ impl<'a> Reporter<'a> {
     fn write_shown(&mut self, shown: &[Kept<FindingCopy>]) -> Result<(), RunError> {
         for kept in shown {
             let copy = &kept.text;
-            self.push(&copy.finding(), copy.line(), copy.generated)?;
+            self.push(&copy.finding(), copy.line())?;
             self.write()?;
         }
         Ok(())
@@ -191,11 +209,10 @@ impl<'a> Reporter<'a> {
     fn push(
         &mut self,
         finding: &Finding<'_>,
-        line: Option<&[u8]>,
-        generated: Option<u32>,
+        line: Option<LinePart<'_>>,
     ) -> Result<(), AllocError> {
         match self.form {
-            Form::Machine(format) => self.before.push(&mut self.out, format, finding, generated),
+            Form::Machine(format) => self.before.push(&mut self.out, format, finding),
             Form::Lines {
                 is_coloured,
                 has_excerpt,
@@ -203,8 +220,15 @@ impl<'a> Reporter<'a> {
                 push_lines(&mut self.out, is_coloured, finding)?;
                 match line {
                     Some(line) if has_excerpt => {
-                        let (column, end_column) = (finding.position.column, finding.end_column);
-                        push_excerpt(&mut self.out, is_coloured, line, column, end_column)
+                        let width = finding.end_column.saturating_sub(finding.position.column);
+                        let end_column = line.column.saturating_add(width);
+                        push_excerpt(
+                            &mut self.out,
+                            is_coloured,
+                            line.octets,
+                            line.column,
+                            end_column,
+                        )
                     }
                     _ => Ok(()),
                 }
@@ -253,28 +277,29 @@ impl<'a> Reporter<'a> {
     ) -> Result<(), RunError> {
         let message = generated_message(self.rt.alloc(), spot.generated, finding_text.message)?;
         let finding = Finding {
-            file: spot.file,
-            severity: counted.severity,
-            code,
+            file: spot.file.as_bytes(),
             position: spot.position,
             end_column: spot.end_column,
             opened: spot.opened,
-            owner: finding_text.owner,
-            rtype: finding_text.rtype,
+            generate: generate_of(spot.generated),
+            severity: counted.severity,
+            code,
+            owner: known(finding_text.owner),
+            rtype: known(finding_text.rtype),
             message: match &message {
-                Some(text) => text.as_str(),
-                None => finding_text.message,
+                Some(text) => text.as_bytes(),
+                None => finding_text.message.as_bytes(),
             },
-            help: finding_text.help,
-            note: finding_text.note,
+            help: known(finding_text.help),
+            note: known(finding_text.note),
         };
         let line = if self.shows_lines() { spot.line } else { None };
         if let Some(collector) = &mut self.collector {
-            let copy = FindingCopy::new(self.rt.alloc(), &finding, line, spot.generated)?;
+            let copy = FindingCopy::new(self.rt.alloc(), &finding, line)?;
             collector.keep(counted, copy)?;
             return Ok(());
         }
-        self.push(&finding, line, spot.generated)?;
+        self.push(&finding, line)?;
         self.write()
     }
 

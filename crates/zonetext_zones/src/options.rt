@@ -180,7 +180,7 @@ pub fn zone_of<'o>(inner: &'o ArgMatches) -> Result<Option<&'o str>, Usage<'o>> 
 /// Reports that the name of a file should contain its zone, and does not, and returns the status.
 pub fn report_no_zone(rt: &HostRuntime, file: &str) -> io::Result<u8> {
     let file = Shown(file);
-    eprintln!(rt; "zonetext: {file}: its name is no zone's")?;
+    eprintln!(rt; "zonetext: {file}: the file's name names no zone")?;
     Ok(USAGE)
 }
 

@@ -9,7 +9,7 @@ use zone_check::finding::EntryFinding;
 use zone_check::scan::OctetScan;
 use zone_reader::{NameBuffer, RecordTtl};
 use zone_record::Data;
-use zone_set::serial_of;
+use zone_serial::serial_of;
 use zonetext_files::stop::RunError;
 use zonetext_files::zone_files::Entry;
 use zonetext_findings::locations::tokens_of;
