@@ -145,10 +145,10 @@ def digest_rows():
     put('digest', DIGEST.replace('admin 2018031900', 'admin 2018031901'))
     same('another serial', run('digest', '--zone', 'example.', 'digest'),
          (1, front + "another serial number than the SOA's\n", ''))
-    same('no digest', run('digest', 'old'), (1, '', "zonetext: old: no ZONEMD at the zone's name\n"))
+    same('no digest', run('digest', 'old'), (1, '', "zonetext: old: no ZONEMD at the apex\n"))
     same('no SOA', run('digest', '-', given='a. 60 A 192.0.2.1\n'), (1, '', 'zonetext: -: no SOA\n'))
     same('two SOAs', run('digest', '-', given=text(SOA, SOA.replace(' 5 ', ' 6 '))),
-         (1, '', "zonetext: -: no single SOA at the zone's name\n"))
+         (1, '', "zonetext: -: no single SOA at the apex\n"))
     same('a fault', run('digest', '-', given='a. 60 A 192.0.2.256\n')[:2], (1, ''))
     same('an absent file', run('digest', 'absent')[:2], (3, ''))
 
@@ -194,7 +194,7 @@ def transfer_rows():
         + ';; Query time: 0 msec\n;; SERVER: 127.0.0.1#53(127.0.0.1) (TCP)\n;; XFR size: 4 records (messages 1, bytes 198)\n\n')
     put('plain', text(*lines))
     same('check of a transfer', run('check', '--zone', 'example.', 'sent'),
-         (0, '', 'sent:8:1: warning: example. SOA: record stands twice [duplicate]\n0 errors, 1 warning\n'))
+         (0, '', 'sent:8:1: warning: example. SOA: duplicate record [duplicate]\n0 errors, 1 warning\n'))
     same('records', run('records', 'sent'), (0, text(*lines, SOA), ''))
     same('canon', run('canon', 'sent'), (0, text(*lines), 'zonetext: 1 duplicate left out\n'))
     same('diff', run('diff', 'plain', 'sent'), (0, '', ''))

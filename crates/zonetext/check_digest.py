@@ -215,7 +215,7 @@ def verdict_rows():
             + front + '240: unknown hash algorithm\n', words=['-v'])
     checked('unknown ones alone', [hash240, scheme240], 1, '', nothing)
     checked('unknown ones alone, and any is enough', [hash240], 1, '', nothing, words=['--any'])
-    checked('none', [], 1, '', "zonetext: zone: no ZONEMD at the zone's name\n")
+    checked('none', [], 1, '', "zonetext: zone: no ZONEMD at the apex\n")
     same('--any with --write', run('digest', '--any', '--write', 'zone')[:2], (2, ''))
 
 
@@ -236,7 +236,7 @@ def refusal_rows():
     refused('a byte order mark', '\xef\xbb\xbf' + whole,
             'zone:1:1: error: byte order mark [byte-order-mark]\n1 error, 0 warnings\n' + NOTHING, status=1)
     refused('no SOA', 'a 60 A 192.0.2.1\n', 'zonetext: zone: no SOA\n' + NOTHING, status=1)
-    refused('two SOAs', whole + SHORT.replace('1900', '1901'), "zonetext: zone: no single SOA at the zone's name\n" + NOTHING, status=1)
+    refused('two SOAs', whole + SHORT.replace('1900', '1901'), "zonetext: zone: no single SOA at the apex\n" + NOTHING, status=1)
     other = 'sub' + SHORT.replace('example.', '').replace('1900', '1907')
     refused('an SOA of another name', other + whole, 'zone:1:1: error: SOA of sub.example., and the zone is example.\n' + NOTHING, status=1)
     put('soa', SHORT)

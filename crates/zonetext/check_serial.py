@@ -358,7 +358,7 @@ def name_rows():
                            ('other.example.zone', 'other.example.'), ('old/Example.zone', 'Example.')]:
             wanted = run(*words, '--zone', zone, name)
             same(f'{words} {name}', run(*words, '--zone-from-name', name), wanted)
-        no_zone = "zonetext: {}: its name is no zone's\n"
+        no_zone = "zonetext: {}: the file's name names no zone\n"
         same(f'{words} -', run(*words, '--zone-from-name', '-', given=text)[::2], (2, no_zone.format('-')))
         same(f'{words} with both', run(*words, '--zone-from-name', '--zone', 'example.', 'example.zone')[:2], (2, ''))
         put('.zone', text)
@@ -372,7 +372,7 @@ def name_rows():
     same('serials of two zones', run('serial', '--zone-from-name', *two),
          (0, 'example.zone: example. 2026112601\nother.example.zone: other.example. 2026112601\n', ''))
     same('serials, one without a name', run('serial', '--zone-from-name', '.zone', two[0]),
-         (2, 'example.zone: example. 2026112601\n', "zonetext: .zone: its name is no zone's\n"))
+         (2, 'example.zone: example. 2026112601\n', "zonetext: .zone: the file's name names no zone\n"))
     other = "zonetext: other.example.zone: its name is another zone's than example.zone: give --zone\n"
     for words in [('canon',), ('diff',), ('diff', '--summary'), ('diff', '--nsupdate')]:
         same(f'{words} of two zones', run(*words, '--zone-from-name', *two), (2, '', other))
