@@ -10,8 +10,9 @@
  * A call returns one of the statuses below and writes a struct dnstext_outcome. Output is at the
  * beginning of the buffer; the rest of the buffer is unchanged. If the output doesn't fit, the status
  * is DNSTEXT_NO_ROOM and the length is the number that is needed: so a call with a buffer of length 0
- * returns the length. With every other status the length is the number written, which never exceeds the
- * buffer. The functions may be called from several threads at once. */
+ * returns the length. A second call with the same input, and a buffer of that length or longer, never
+ * returns DNSTEXT_NO_ROOM. With every other status the length is the number written, which never
+ * exceeds the buffer. The functions may be called from several threads at once. */
 #ifndef DNSTEXT_H
 #define DNSTEXT_H
 

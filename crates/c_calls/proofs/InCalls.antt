@@ -38,7 +38,7 @@ cancel : (xs l m : Given) → xs ++ l ≡ xs ++ m → l ≡ m
 cancel [] l m e = e
 cancel (x ∷ xs) l m e = cancel xs l m (ap tail_of e)
 
-drop_octets : (n : ℕ) (octets : List ℕ) → AreOctets octets → AreOctets (drop n octets)
+pub drop_octets : (n : ℕ) (octets : List ℕ) → AreOctets octets → AreOctets (drop n octets)
 drop_octets zero octets h = h
 drop_octets (suc n) [] h = h
 drop_octets (suc n) (x ∷ octets) h = drop_octets n octets (and_parts (nat_lt x 256) _ h).1
@@ -55,11 +55,11 @@ end_within : (n : ℕ) (front : List Piece) (at : ℕ) (b : Bool) (left : Given)
 end_within n [] at b left w = w.0
 end_within n (p ∷ front) at b left w = end_within n front at b left w.1
 
-some_given : (octets : List ℕ) → AreOctets octets → (given : Given) × AreItemsOf octets given
+pub some_given : (octets : List ℕ) → AreOctets octets → (given : Given) × AreItemsOf octets given
 some_given octets o = (_, run_given octets o)
 
 -- the pieces from an offset on are those of the octets from there
-once : (text : List ℕ) (at : ℕ) (given alone : Given) → ReadsOctetsFrom text at given → EachWithin (length text) given → AreItemsOf (drop at text) alone → given ≡ later at alone
+pub once : (text : List ℕ) (at : ℕ) (given alone : Given) → ReadsOctetsFrom text at given → EachWithin (length text) given → AreItemsOf (drop at text) alone → given ≡ later at alone
 once text at given alone r w g =
     let far = within_back (length text) at r.0 (subst (EachWithin (length text)) r.2 w) in
     let here = subst (λ n. EachWithin n r.0) (sym (length-drop at text)) far in

@@ -1,8 +1,10 @@
 mod Begun
 mod CutOff
+mod DataRoom
 mod Decimals
 mod InCalls
 mod KeptNames
+mod KindsElse
 mod LastEnds
 mod Leading
 mod LeftOpen
@@ -10,11 +12,14 @@ mod Lengths
 mod LinesTold
 mod Moves
 mod NameText
+mod NextRoom
 mod NumberText
+mod OwnedLines
 mod PieceCalls
 mod PutTexts
 mod ReadTexts
 mod RecordCalls
+mod RoomSaid
 mod Rooms
 mod Row
 mod ToldTexts

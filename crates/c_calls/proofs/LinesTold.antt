@@ -37,10 +37,10 @@ module _ (head : RecordNumbers) where
         let one : Some (Ok is.0) ≡ Some (Ok Directive) = ap Some (sym is.1) ∙ e in
         let same : is.0 ≡ Directive = cc in no_directive is.0 is.2 same
 
-    pub line_told : ReadsLine (exactly 1024) text call.before.zone.at state [] line after octets → ReportsLine after line.end octets head call
+    pub line_told : ReadsLine (exactly 512) text call.before.zone.at state [] line after octets → ReportsLine after line.end octets head call
         → ReadsZone text state call
     line_told r tells =
-        let few : ReadsNextRecord (exactly 1024) r.reader [] (Some line.read) r.next octets =
+        let few : ReadsNextRecord (exactly 512) r.reader [] (Some line.read) r.next octets =
         record { directives = []; middle = r.reader; row = none_given; are_directives = tt; last = r.reads; is_last = never } in
         let told : ReportsFound 0 r.next octets r.next.state.owner head call = subst (λ (s : State). ReportsFound 0 r.next octets s.owner head call) (sym r.state_is) (tells r.next r.state_is r.ends) in record {
           before = r.reader;
@@ -48,6 +48,6 @@ module _ (head : RecordNumbers) where
           given = Some line.read;
           octets = octets;
           starts = r.starts;
-          reads = any_room (exactly 1024) (exactly 65535) r.reader r.next [] octets (Some line.read) fits few;
+          reads = any_room (exactly 512) (exactly 65535) r.reader r.next [] octets (Some line.read) fits few;
           tells = subst (λ x. ReportsResult (Some x) r.next octets call) (sym is.1) (record_told is.0 r.next octets call is.2 told);
         }

@@ -51,12 +51,12 @@ room = exactly 65535
 
 -- ---- readers at one position, with one state, read the same
 
-record SameReader (r s : RecordReader) : Type 0 where
-  octets : r.octets.now ≡ s.octets.now
-  source : r.source ≡ s.source
-  state : r.state ≡ s.state
+pub record SameReader (r s : RecordReader) : Type 0 where
+  pub octets : r.octets.now ≡ s.octets.now
+  pub source : r.source ≡ s.source
+  pub state : r.state ≡ s.state
 
-entry_of_other : (r s after : RecordReader) (old new : List ℕ) (result : Option (Result ParsedEntry RecordError)) → SameReader r s → ReadsNextEntry room r old result after new → ReadsNextEntry room s old result after new
+pub entry_of_other : (r s after : RecordReader) (old new : List ℕ) (result : Option (Result ParsedEntry RecordError)) → SameReader r s → ReadsNextEntry room r old result after new → ReadsNextEntry room s old result after new
 entry_of_other r s after old new result same h = record {
   start = h.start;
   begun = h.begun;
@@ -242,7 +242,7 @@ no_name kept (Name l) h k =
     ⊎_elim (λ short. omega (arith, short, h.2.0)) (λ bad. let same : Ok l ≡ Err bad.0 = name_same _ (Ok l) (Err bad.0) h.2.1 bad.1 in cc) k.2
 no_name kept Rejected h k = h k.0
 
-state_once : (zone : Zone) (a b : State) → HoldsState zone (Some a) → HoldsState zone (Some b) → a ≡ b
+pub state_once : (zone : Zone) (a b : State) → HoldsState zone (Some a) → HoldsState zone (Some b) → a ≡ b
 state_once zone a b h k = λ i. record {
   origin = name_once zone.origin a.origin b.origin h.0 k.0 i;
   owner = name_once zone.owner a.owner b.owner h.1 k.1 i;

@@ -16,7 +16,7 @@ use Rattle.rdata.specs.declared.shape.Shape.{Shape}
 use Rattle.rdata_fields.specs.Fields.{field_form}
 use Rattle.rdata_fields.specs.Forms.{RefusesField}
 use Rattle.rdata_fields.specs.RecordErrors.{error_of_fault}
-use Rattle.rdata_fields.specs.Parsing.{RefusesNext, SpellsField, ParsesAllFields}
+use Rattle.rdata_fields.specs.Parsing.{BeginsField, RefusesNext, SpellsField, ParsesAllFields}
 use Rattle.rdata_fields.specs.declared.field.Field.{Field}
 use Rattle.rdata_fields.specs.declared.record_error.RecordError.{RecordError}
 use Rattle.rdata_values.specs.declared.error.ErrorKind.{ErrorKind}
@@ -36,7 +36,7 @@ use Rattle.zone_reader.specs.declared.source.StartOfEntry.{StartOfEntry}
 use Rattle.zone_reader.specs.declared.state.State.{State}
 
 -- all of a list with one more element at its end
-all_before : {X : Type 0} (P : X → Type 0) (xs : List X) (x : X) → AllByRecursion P (xs ++ x ∷ []) → AllByRecursion P xs × P x
+pub all_before : {X : Type 0} (P : X → Type 0) (xs : List X) (x : X) → AllByRecursion P (xs ++ x ∷ []) → AllByRecursion P xs × P x
 all_before P [] x h = (tt, h.0)
 all_before P (y ∷ xs) x h = let more = all_before P xs x h.1 in ((h.0, more.0), more.1)
 
@@ -58,13 +58,13 @@ error_fits r fits = fits r refl
 module _ (one other : Room) where
   -- ---- tokens that are rejected for another reason than the capacity
 
-  field_so : (spelled : List ℕ → Type 0) (reason : ErrorKind → Type 0) (old : List ℕ) (e : ErrorKind) → (e ≡ ShortBuf → ⊥) → RefusesField one spelled reason old e → RefusesField other spelled reason old e
-  field_so spelled reason old e fits (inl h) = absurd (fits h.0)
-  field_so spelled reason old e fits (inr h) = inr h
+  field_so : (begun spelled : List ℕ → Type 0) (reason : ErrorKind → Type 0) (old : List ℕ) (e : ErrorKind) → (e ≡ ShortBuf → ⊥) → RefusesField one begun spelled reason old e → RefusesField other begun spelled reason old e
+  field_so begun spelled reason old e fits (inl h) = absurd (fits h.0)
+  field_so begun spelled reason old e fits (inr h) = inr h
 
   token_so : (origin : Option (List (List ℕ))) (f : Field) (tokens : List TokenSeen) (old : List ℕ) (e : ErrorKind) → (e ≡ ShortBuf → ⊥) → RefusesNext origin one f tokens old e → RefusesNext origin other f tokens old e
   token_so origin f [] old e fits h = h
-  token_so origin f (t ∷ ts) old e fits h = field_so (SpellsField origin f t) ((field_form origin f).reason t.is_quoted t.text) old e fits h
+  token_so origin f (t ∷ ts) old e fits h = field_so (BeginsField origin f t) (SpellsField origin f t) ((field_form origin f).reason t.is_quoted t.text) old e fits h
 
   fields_so : (origin : Option (List (List ℕ))) (fields : List Field) (end : ℕ) (tokens : List TokenSeen) (old : List ℕ) (r : RecordError) (left : List TokenSeen) (new : List ℕ) → (r.kind ≡ ShortBuf → ⊥)
       → ParsesAllFields origin one fields end tokens old (Err r) left new → ParsesAllFields origin other fields end tokens old (Err r) left new

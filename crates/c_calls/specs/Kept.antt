@@ -42,6 +42,18 @@ HoldsState zone (Some state) =
     × (state.last_ttl ≡ flagged zone.has_last_ttl zone.last_ttl) × (state.class ≡ zone.class_code)
 HoldsState zone None = HoldsName zone.origin None ⊎ HoldsName zone.owner None
 
+-- the stored name is rejected, or none, or a name
+abbrev pub HoldsSomeName : KeptName → Type 0
+HoldsSomeName kept = (known : NameState) × HoldsName kept (Some known)
+
+-- the stored state without its owner
+abbrev pub HoldsButOwner : Zone → State → Type 0
+HoldsButOwner zone state = (state.owner ≡ Unset) × ((owner : NameState) × HoldsState zone (Some (record state { owner = owner })))
+
+-- the stored state for an entry on one line, with its owner or without it
+abbrev pub HoldsForLine : Zone → State → Type 0
+HoldsForLine zone state = HoldsState zone (Some state) ⊎ HoldsButOwner zone state
+
 -- a name is stored now, with a flag of 0 or 1, and the length 0 if it was rejected; the octets after it are unchanged
 pub record KeepsName (known : NameState) (old new : KeptName) : Type 0 where
   pub holds : HoldsName new (Some known)

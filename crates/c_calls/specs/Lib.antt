@@ -2,6 +2,7 @@ pub mod Calls
 pub mod Capacity
 pub mod Codecs
 pub mod DataText
+pub mod EnoughRoom
 pub mod Entries
 pub mod Generates
 pub mod Kept

@@ -1,8 +1,9 @@
 //! The state of a zone file between two calls, in plain numbers and octets.
-ghost use Rattle.std.specs.Prelude.{◌≡◌, ◌≤◌, drop, length, take};
+ghost use Rattle.std.specs.Prelude.{◌≡◌, ◌≤◌, IsTrue, drop, length, take};
 ghost use Rattle.dns_wire.specs.FromOctets.{MakesName};
-ghost use Rattle.c_calls.specs.Kept.{HoldsName, HoldsState, KeepsName, KeepsState, KeepsTtl, MakesOrNot, SetsOrigin, flagged, known_if};
+ghost use Rattle.c_calls.specs.Kept.{HoldsButOwner, HoldsForLine, HoldsName, HoldsSomeName, HoldsState, KeepsName, KeepsState, KeepsTtl, MakesOrNot, SetsOrigin, flagged, known_if};
 ghost use Rattle.c_calls.specs.Reasons.{refusal_of_name};
+ghost use Rattle.zone_reader.specs.declared.known.NameState.TheVariants.{Unset};
 
 use crate::outcome::{Fault, Outcome, Refusal, accept, refuse};
 use arrayvec::ArrayVec;
@@ -103,6 +104,54 @@ pub(crate) fn load_state(zone: &Zone, state: &mut State) -> bool
         return false;
     }
     load_name(&zone.owner, &mut state.owner)
+}
+
+/// Returns whether a stored name is rejected, or none, or a name. It is not copied.
+fn is_some_name(kept: &KeptName) -> bool
+    ensures { IsTrue result → HoldsSomeName kept.now }
+{
+    if kept.is_refused != 0 {
+        return true;
+    }
+    if kept.length == 0 {
+        return true;
+    }
+    if kept.length > kept.octets.len() {
+        return false;
+    }
+    let part = &kept.octets[..kept.length];
+    match Name::from_octets(part) {
+        Ok(_) => true,
+        Err(_) => false,
+    }
+}
+
+/// Loads the stored state without its owner, and returns true. Returns false if a stored name is not
+/// a name.
+fn load_but_owner(zone: &Zone, state: &mut State) -> bool
+    requires { state.old.owner ≡ Unset }
+    ensures { IsTrue result → HoldsButOwner zone.now state.new }
+{
+    if !is_some_name(&zone.owner) {
+        return false;
+    }
+    state.class = Class(zone.class_code);
+    state.default_ttl = ttl_of(zone.has_default_ttl, zone.default_ttl);
+    state.last_ttl = ttl_of(zone.has_last_ttl, zone.last_ttl);
+    load_name(&zone.origin, &mut state.origin)
+}
+
+/// Loads the stored state for an entry that begins with an octet, and returns true. Returns false if a
+/// stored name is not a name. The owner is loaded only if the octet is a blank: another record has its
+/// own.
+pub(crate) fn load_for_line(first: u8, zone: &Zone, state: &mut State) -> bool
+    requires { state.old.owner ≡ Unset }
+    ensures { IsTrue result → HoldsForLine zone.now state.new }
+{
+    if first == b' ' || first == b'\t' {
+        return load_state(zone, state);
+    }
+    load_but_owner(zone, state)
 }
 
 /// Copies octets to the start of others, which are at least as long.

@@ -1,5 +1,6 @@
 //! Laws about the results of calls. Each function's contract is the law; calling one does nothing.
 ghost use Rattle.c_calls.specs.Calls.{CallsReportEntries, CallsReportOpener, CallsReportTokens};
+ghost use Rattle.c_calls.specs.EnoughRoom.{CallsReportEnoughRoom};
 ghost use Rattle.c_calls.specs.Entries.{EntriesInARow};
 ghost use Rattle.c_calls.specs.Pieces.{PieceCallsReportPieces, PieceCallsReportTokens};
 ghost use Rattle.c_calls.specs.RecordCalls.{RecordCallsReturnAll};
@@ -35,4 +36,12 @@ pub fn piece_calls_report_all()
 /// nothing. None of them rejects the zone.
 pub fn record_calls_return_all()
     ensures { RecordCallsReturnAll }
+{}
+
+/// States of each call that fills a buffer: its status is [`NoRoom`](crate::outcome::Refusal::NoRoom)
+/// only if its result is longer than the buffer, and then the buffer is unchanged. If it is called
+/// again with the same input, and with a buffer as long as the outcome's length or longer, its status
+/// is another one. Only the call for the next entry writes to the buffer in that case: the first tokens.
+pub fn calls_report_enough_room()
+    ensures { CallsReportEnoughRoom }
 {}

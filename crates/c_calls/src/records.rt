@@ -9,7 +9,9 @@ ghost use Rattle.c_calls.specs.declared.outcome.Refusal.TheVariants.{BadCursor};
 ghost use Rattle.c_calls.specs.declared.records.Record.{Record};
 ghost use Rattle.c_calls.specs.Records.{HasIncluded, IsHeadOfLine, KeepsReader, NextIfRead, NextRecord, ReportsFound, ReportsResult, ReportsLine, ReportsRejected, head_in, head_of, head_with, memory};
 
-use crate::kept::{KeptName, Zone, keep_name, keep_state, load_state, name_of, put_over};
+use crate::kept::{
+    KeptName, Zone, keep_name, keep_state, load_for_line, load_state, name_of, put_over,
+};
 use crate::outcome::{END, Fault, GENERATE, INCLUDE, OK, Outcome, Refusal, number_of, refuse};
 use crate::reasons::report_error;
 use crate::record_reading::ZoneReader;
@@ -23,8 +25,12 @@ use zone_reader::{
 /// Greatest number of octets of record data (RFC 1035 section 3.2.1).
 const MOST: usize = 65535;
 
-/// Number of octets that suffices for most record data.
-const FEW: usize = 1024;
+/// Number of octets that suffices for most record data on one line, and for keys and signatures of
+/// RSA with 2,048 bits. The buffer is filled with zeros at each call.
+const FEW: usize = 512;
+
+/// Number of octets that suffices for most other record data.
+const SOME: usize = 1024;
 
 /// A record of a zone file, whose data is in another buffer; or a file to include; or a `$GENERATE`
 /// directive.
@@ -321,7 +327,7 @@ fn next_of_any(
     if !load_state(zone, &mut reader.state) {
         return Some(refuse_zone(outcome));
     }
-    let mut data: ArrayVec<u8, FEW> = ArrayVec::new();
+    let mut data: ArrayVec<u8, SOME> = ArrayVec::new();
     let read = reader.next_record(&mut data);
     if read.lacks {
         return None;
@@ -380,7 +386,7 @@ fn head_of_line(line: &LineRead) -> Option<RecordNumbers>
 }
 
 /// Reads the next record as [`record_next`] does, if it is on one line. Returns `None`, and
-/// changes nothing, for other entries, and if octets don't fit.
+/// changes nothing, for other entries, if octets don't fit, and for a zone that is rejected.
 #[inline(never)]
 fn next_of_line(
     text: &[u8],
@@ -396,12 +402,12 @@ fn next_of_line(
       outcome = outcome.new;
     }) }
 {
-    let mut state = State::new(Class(zone.class_code));
-    if !load_state(zone, &mut state) {
-        return Some(refuse_zone(outcome));
+    if zone.at >= text.len() {
+        return None;
     }
-    if zone.at > text.len() {
-        return Some(refuse_zone(outcome));
+    let mut state = State::new(Class(zone.class_code));
+    if !load_for_line(text[zone.at], zone, &mut state) {
+        return None;
     }
     let mut data: ArrayVec<u8, FEW> = ArrayVec::new();
     let Some(line) = read_line(text, zone.at, &mut state, &mut data) else {
