@@ -77,6 +77,11 @@ def strings(octets, at):
     return at is not None
 
 
+def maybe_string(octets, at):
+    """RFC 1183 section 3.2: a string, or none."""
+    return at == len(octets) or string(octets, at) == len(octets)
+
+
 def some_strings(octets, at):
     return at < len(octets) and strings(octets, at)
 
@@ -210,6 +215,7 @@ RESTS = {
     "some": some,
     "any": any_octets,
     "strings": some_strings,
+    "maybe-string": maybe_string,
     "types": types,
     "some-types": some_types,
     "ds": digest({1: 20, 2: 32, 3: 32, 4: 48, 5: 32, 6: 32}, 1),
@@ -229,10 +235,12 @@ FORMS = {
     "RP MINFO TALINK": "name name",
     "MX KX AFSDB RT LP": "2 name",
     "PX": "2 name name",
+    "DSYNC": "5 name",
     "SRV": "6 name",
     "HINFO": "string string",
     "GPOS": "string string string",
     "X25": "digits",
+    "ISDN": "string maybe-string",
     "NAPTR": "4 string string string name",
     "NSEC3PARAM": "4 salt",
     "NID L64": "10",
@@ -243,11 +251,11 @@ FORMS = {
     "DS CDS DLV TA": "4 ds",
     "SSHFP": "2 sshfp",
     "ZONEMD": "6 zonemd",
-    "TLSA SMIMEA": "3 some",
+    "TLSA SMIMEA SINK": "3 some",
     "DNSKEY CDNSKEY KEY RKEY": "4 some",
     "RRSIG SIG": "18 name some",
     "CERT": "5 some",
-    "DHCID OPENPGPKEY HHIT BRID": "some",
+    "DHCID OPENPGPKEY HHIT BRID EID NIMLOC": "some",
     "NSEC": "name some-types",
     "NSEC3": "4 salt hash types",
     "CSYNC": "6 types",

@@ -16,6 +16,7 @@ mod record;
 mod results;
 mod rules;
 mod set;
+mod sorted;
 mod spelling;
 mod store;
 mod tape;

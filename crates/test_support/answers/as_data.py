@@ -32,6 +32,7 @@ FIELDS = {
     "type": ("RRSIG", "", " 0 0 0 19700101000000 19700101000000 0 . AA==", "", "00 00 00000000 00000000 00000000 0000 00 00", "type covered"),
     "algorithm": ("DNSKEY", "0 0 ", " AA==", "0000 00", "00", "algorithm"),
     "certificate": ("CERT", "", " 0 0 AA==", "", "0000 00 00", "type"),
+    "scheme": ("DSYNC", "A ", " 0 .", "0001", "0000 00", "scheme"),
     "string": ("HINFO", '"" ', "", "00", "", "system"),
     "tag": ("CAA", "0 ", ' ""', "00", "", "tag"),
     "salt": ("NSEC3PARAM", "0 0 0 ", "", "00 00 0000", "", "salt"),
@@ -42,7 +43,7 @@ FIELDS = {
 # Widths of fixed-width fields, in octets.
 WIDTHS = {
     "u8": 1, "u16": 2, "u32": 4, "interval": 4, "time": 4, "ipv4": 4, "ipv6": 16, "eui48": 6, "eui64": 8,
-    "locator": 8, "type": 2, "algorithm": 1, "certificate": 2,
+    "locator": 8, "type": 2, "algorithm": 1, "certificate": 2, "scheme": 1,
 }
 # Kinds whose field ends the RDATA in FIELDS: one octet more or less makes the RDATA invalid.
 LAST = [kind for kind, form in FIELDS.items() if form[2] == "" and form[4] == "" and kind != "hash"]

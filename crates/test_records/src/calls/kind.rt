@@ -26,6 +26,7 @@ fn kind_of(name: &[u8]) -> Option<Field> {
         b"sig_type" => Some(Field::SigType),
         b"algorithm" => Some(Field::Algorithm),
         b"certificate" => Some(Field::CertificateType),
+        b"scheme" => Some(Field::SyncScheme),
         b"string" => Some(Field::String),
         b"psdn_address" => Some(Field::PsdnAddress),
         b"tag" => Some(Field::Tag),

@@ -1,5 +1,6 @@
 //! Findings of zones.
 use super::results::{Octets, number16, origin_of};
+use super::sorted::Sorted;
 use super::zone::state_of;
 use dns_octets::ShortBuf;
 use dns_wire::Name;
@@ -15,10 +16,12 @@ use zone_dnssec::{SecurityFinding, Times, check_signed};
 use zone_reader::{ParsedEntry, RecordReader, State};
 use zone_record::{Data, Record};
 use zone_rules::names::view;
-use zone_rules::{Finding, RrsetName, SortedRecords, SortedSets, check_zone};
+use zone_rules::{Finding, RrsetName, SortedSets, check_zone};
 
 /// A record in memory of which one allocation may fail.
 type HeapRecord<'a> = Record<Octets<'a>, Octets<'a>>;
+
+type SortedRecords<'a> = Sorted<'a, Octets<'a>>;
 
 /// Returns the record of the state's owner, a TTL, a class, and data of a type.
 fn record_of<'a>(
@@ -111,11 +114,26 @@ fn read_records<'a>(
     records
 }
 
+/// Returns the records of a zone, sorted.
+fn sorted_of<'a>(
+    records: Vec<HeapRecord<'a>, &'a Heap>,
+    name: &Name<&[u8]>,
+    answer: &mut Answer<'a>,
+) -> Option<SortedRecords<'a>> {
+    match Sorted::new(answer.heap(), records, name) {
+        Ok(sorted) => Some(sorted),
+        Err(_) => {
+            answer.refuse(&ShortBuf);
+            None
+        }
+    }
+}
+
 /// Adds a rule, and owner and type of the record that breaks it.
-fn add_broken(rule: &str, place: Option<usize>, records: &[HeapRecord<'_>], answer: &mut Answer) {
+fn add_broken(rule: &str, place: Option<usize>, records: &SortedRecords<'_>, answer: &mut Answer) {
     answer.add_text(rule);
     if let Some(place) = place {
-        if let Some(record) = records.get(place) {
+        if let Some(record) = records.record(place) {
             answer.add_text(" ");
             answer.add_shown(&NameText(record.owner.as_slice()));
             answer.add_text(" ");
@@ -126,27 +144,24 @@ fn add_broken(rule: &str, place: Option<usize>, records: &[HeapRecord<'_>], answ
 }
 
 /// Adds a finding of a zone, by rule and record.
-fn add_finding(finding: &Finding, records: &[HeapRecord<'_>], answer: &mut Answer) {
+fn add_finding(finding: &Finding, records: &SortedRecords<'_>, answer: &mut Answer) {
     add_broken(finding.rule.code.name(), finding.record, records, answer);
 }
 
 /// Adds a finding of a signed zone, by rule and record.
-fn add_insecure(finding: &SecurityFinding, records: &[HeapRecord<'_>], answer: &mut Answer) {
+fn add_insecure(finding: &SecurityFinding, records: &SortedRecords<'_>, answer: &mut Answer) {
     let place = Some(finding.record);
     add_broken(finding.rule.name(), place, records, answer);
 }
 
 /// Adds the findings of a zone of sorted records, with RRsets that have a rejected entry.
 fn add_found(
-    records: &[HeapRecord<'_>],
+    records: &SortedRecords<'_>,
     refused: &SortedSets<'_>,
     name: &Name<&[u8]>,
     answer: &mut Answer,
 ) {
-    let Some(sorted) = SortedRecords::new(records) else {
-        return answer.fail(Failure::Unlike);
-    };
-    match check_zone(answer.heap(), name, &sorted, refused) {
+    match check_zone(answer.heap(), name, &records.zone, refused) {
         Ok(found) => {
             for finding in found.as_slice() {
                 add_finding(finding, records, answer);
@@ -158,15 +173,12 @@ fn add_found(
 
 /// Adds the records of a zone of sorted records that delegations hide.
 fn add_hidden(
-    records: &[HeapRecord<'_>],
+    records: &SortedRecords<'_>,
     refused: &SortedSets<'_>,
     name: &Name<&[u8]>,
     answer: &mut Answer,
 ) {
-    let Some(sorted) = SortedRecords::new(records) else {
-        return answer.fail(Failure::Unlike);
-    };
-    match hidden_records(answer.heap(), name, &sorted, refused) {
+    match hidden_records(answer.heap(), name, &records.zone, refused) {
         Ok(found) => {
             for place in found.as_slice() {
                 add_broken("hidden", Some(*place), records, answer);
@@ -185,11 +197,11 @@ pub fn rules(inputs: &[Vec<u8>], answer: &mut Answer) {
         return answer.fail(Failure::BadInputs);
     };
     let state = state_of(origin, answer);
-    let mut records = read_records(text.as_slice(), state, answer);
-    if records.sort_by(|left, right| left.compare(right)).is_err() {
-        return answer.refuse(&ShortBuf);
-    }
-    add_found(records.as_slice(), &SortedSets::none(), &name, answer);
+    let records = read_records(text.as_slice(), state, answer);
+    let Some(records) = sorted_of(records, &name, answer) else {
+        return;
+    };
+    add_found(&records, &SortedSets::none(), &name, answer);
 }
 
 /// Returns the RRsets of records, in canonical order.
@@ -220,19 +232,19 @@ pub fn refused(inputs: &[Vec<u8>], answer: &mut Answer) {
         return answer.fail(Failure::BadInputs);
     };
     let state = state_of(origin, answer);
-    let mut records = read_records(text.as_slice(), state, answer);
+    let records = read_records(text.as_slice(), state, answer);
     let state = state_of(origin, answer);
     let others = read_records(others.as_slice(), state, answer);
     let Ok(sets) = sets_of(others.as_slice(), answer.heap()) else {
         return answer.refuse(&ShortBuf);
     };
-    if records.sort_by(|left, right| left.compare(right)).is_err() {
-        return answer.refuse(&ShortBuf);
-    }
+    let Some(records) = sorted_of(records, &name, answer) else {
+        return;
+    };
     let Some(sets) = SortedSets::new(sets.as_slice()) else {
         return answer.fail(Failure::Unlike);
     };
-    add_found(records.as_slice(), &sets, &name, answer);
+    add_found(&records, &sets, &name, answer);
 }
 
 /// Adds the records of a zone that delegations hide, by owner and type. The inputs are the text of the
@@ -248,19 +260,19 @@ pub fn hidden(inputs: &[Vec<u8>], answer: &mut Answer) {
         return answer.fail(Failure::BadInputs);
     };
     let state = state_of(origin, answer);
-    let mut records = read_records(text, state, answer);
+    let records = read_records(text, state, answer);
     let state = state_of(origin, answer);
     let others = read_records(others, state, answer);
     let Ok(sets) = sets_of(others.as_slice(), answer.heap()) else {
         return answer.refuse(&ShortBuf);
     };
-    if records.sort_by(|left, right| left.compare(right)).is_err() {
-        return answer.refuse(&ShortBuf);
-    }
+    let Some(records) = sorted_of(records, &name, answer) else {
+        return;
+    };
     let Some(sets) = SortedSets::new(sets.as_slice()) else {
         return answer.fail(Failure::Unlike);
     };
-    add_hidden(records.as_slice(), &sets, &name, answer);
+    add_hidden(&records, &sets, &name, answer);
 }
 
 /// Returns the seconds that a text spells.
@@ -282,17 +294,19 @@ pub fn dnssec(inputs: &[Vec<u8>], answer: &mut Answer) {
         return answer.fail(Failure::BadInputs);
     };
     let state = state_of(origin, answer);
-    let mut records = read_records(text.as_slice(), state, answer);
-    if records.sort_by(|left, right| left.compare(right)).is_err() {
-        return answer.refuse(&ShortBuf);
-    }
-    let Some(sorted) = SortedRecords::new(records.as_slice()) else {
-        return answer.fail(Failure::Unlike);
+    let records = read_records(text.as_slice(), state, answer);
+    let Some(records) = sorted_of(records, &name, answer) else {
+        return;
     };
-    match check_signed(answer.heap(), &name, Times { instant, margin }, &sorted) {
+    match check_signed(
+        answer.heap(),
+        &name,
+        Times { instant, margin },
+        &records.zone,
+    ) {
         Ok(found) => {
             for finding in found.as_slice() {
-                add_insecure(finding, records.as_slice(), answer);
+                add_insecure(finding, &records, answer);
             }
         }
         Err(_) => answer.refuse(&ShortBuf),

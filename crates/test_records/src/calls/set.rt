@@ -1,5 +1,6 @@
 //! Sets of records: in canonical order, compared and digested.
 use super::results::{Octets, number16, number32, origin_of};
+use super::sorted::Sorted;
 use arrayvec::ArrayVec;
 use dns_codec::base16;
 use dns_wire::{MAX_NAME, Name};
@@ -8,18 +9,22 @@ use rdata_fields::RecordError;
 use rdata_values::{Class, ErrorKind, RecordType};
 use test_support::input::number_of;
 use test_support::{Answer, Failure, Heap, Inputs};
-use zone_contents::{StoredZone, ZoneStore, check_digests, sha384_digest, sha512_digest};
+use zone_contents::{
+    Verdict, ZoneChange, changes_between_zones, check_digests, sha384_digest, sha512_digest,
+};
 use zone_reader::{NameBuffer, ParsedEntry, RecordReader, State};
 use zone_record::{Data, Record};
-use zone_set::{CanonicalSet, Change, Verdict, ZoneSet, changes_between, is_dnssec, serial_rises};
+use zone_rules::ZoneRecords;
+use zone_serial::is_after;
+use zone_set::is_dnssec;
 
 type Owner = ArrayVec<u8, MAX_NAME>;
 
 type OneRecord<'a> = Record<Owner, Octets<'a>>;
 
-type Records<'a> = ZoneSet<Owner, Octets<'a>, &'a Heap>;
+type Records<'a> = Vec<OneRecord<'a>, &'a Heap>;
 
-type Canonical<'a> = CanonicalSet<Owner, Octets<'a>, &'a Heap>;
+type SortedRecords<'a> = Sorted<'a, Owner>;
 
 /// Answers a row: calls what it names.
 pub fn call(name: &str, inputs: &Inputs, answer: &mut Answer) {
@@ -69,7 +74,7 @@ fn record_of<'a>(
 /// Returns the records of a zone's text, in their order, or `None` after adding the reason to the
 /// answer.
 fn read<'a>(text: &[u8], state: State, answer: &mut Answer<'a>) -> Option<Records<'a>> {
-    let mut records: Records<'a> = ZoneSet::new(answer.heap());
+    let mut records: Records<'a> = Vec::new(answer.heap());
     let mut reader = RecordReader::new(text, state);
     for _ in 0..=text.len() {
         let mut octets: Octets<'a> = Vec::new(answer.heap());
@@ -116,16 +121,16 @@ fn state_of(origin: Option<&Name<&[u8]>>) -> State {
     }
 }
 
-/// Returns the records of a zone's text in canonical order, and the number of duplicates that were
-/// removed.
-fn canonical<'a>(
+/// Returns the records of a zone's text, sorted. Without an origin the zone is the root.
+fn sorted_of<'a>(
     text: &[u8],
     origin: Option<&Name<&[u8]>>,
     answer: &mut Answer<'a>,
-) -> Option<(Canonical<'a>, usize)> {
+) -> Option<SortedRecords<'a>> {
     let records = read(text, state_of(origin), answer)?;
-    match CanonicalSet::from_set(records) {
-        Ok(made) => Some(made),
+    let root = Name::root_ref();
+    match Sorted::new(answer.heap(), records, origin.unwrap_or(&root)) {
+        Ok(sorted) => Some(sorted),
         Err(_) => {
             lack(answer);
             None
@@ -139,20 +144,25 @@ fn add_record(record: &OneRecord<'_>, answer: &mut Answer) {
     answer.add_text(";");
 }
 
+/// Adds the record at an index in canonical order.
+fn add_sorted(sorted: &SortedRecords<'_>, place: usize, answer: &mut Answer) {
+    match sorted.record(place) {
+        Some(record) => add_record(record, answer),
+        None => answer.fail(Failure::Unlike),
+    }
+}
+
 /// Adds the records of a text, sorted.
 fn sort(inputs: &[Vec<u8>], answer: &mut Answer) {
     let [text, origin @ ..] = inputs else {
         return answer.fail(Failure::BadInputs);
     };
     let origin = origin_of(origin, answer);
-    let Some(mut records) = read(text.as_slice(), state_of(origin.as_ref()), answer) else {
+    let Some(sorted) = sorted_of(text.as_slice(), origin.as_ref(), answer) else {
         return;
     };
-    if records.sort().is_err() {
-        return lack(answer);
-    }
-    for record in records.as_slice() {
-        add_record(record, answer);
+    for place in 0..sorted.zone.len() {
+        add_sorted(&sorted, place, answer);
     }
 }
 
@@ -162,69 +172,64 @@ fn unique(inputs: &[Vec<u8>], answer: &mut Answer) {
         return answer.fail(Failure::BadInputs);
     };
     let origin = origin_of(origin, answer);
-    let Some((records, duplicates)) = canonical(text.as_slice(), origin.as_ref(), answer) else {
+    let Some(sorted) = sorted_of(text.as_slice(), origin.as_ref(), answer) else {
         return;
     };
-    answer.add_number(duplicates);
+    answer.add_number(sorted.zone.count_duplicates());
     answer.add_text(";");
-    for record in records.as_slice() {
-        add_record(record, answer);
+    for place in 0..sorted.zone.len() {
+        if !sorted.is_duplicate(place) {
+            add_sorted(&sorted, place, answer);
+        }
     }
 }
 
 /// Adds a change: `-` or `+` before the record, or `~` and the old TTL before it.
-fn add_change(change: &Change<'_, Owner, Octets<'_>>, answer: &mut Answer) {
+fn add_change(
+    old: &SortedRecords<'_>,
+    new: &SortedRecords<'_>,
+    change: ZoneChange,
+    answer: &mut Answer,
+) {
     match change {
-        Change::Removed(record) => {
+        ZoneChange::Removed(place) => {
             answer.add_text("-");
-            add_record(record, answer);
+            add_sorted(old, place, answer);
         }
-        Change::Added(record) => {
+        ZoneChange::Added(place) => {
             answer.add_text("+");
-            add_record(record, answer);
+            add_sorted(new, place, answer);
         }
-        Change::NewTtl(before, after) => {
+        ZoneChange::NewTtl(before, after) => {
             answer.add_text("~");
-            answer.add_number(usize::try_from(before.ttl).unwrap_or(usize::MAX));
+            match old.record(before) {
+                Some(record) => {
+                    answer.add_number(usize::try_from(record.ttl).unwrap_or(usize::MAX));
+                }
+                None => answer.fail(Failure::Unlike),
+            }
             answer.add_text(" ");
-            add_record(after, answer);
+            add_sorted(new, after, answer);
         }
     }
 }
 
 /// Adds the differences between two texts.
 fn diff((old, new): (&[u8], &[u8]), answer: &mut Answer) {
-    let Some((old, _)) = canonical(old, None, answer) else {
+    let Some(old) = sorted_of(old, None, answer) else {
         return;
     };
-    let Some((new, _)) = canonical(new, None, answer) else {
+    let Some(new) = sorted_of(new, None, answer) else {
         return;
     };
-    match changes_between(answer.heap(), &old, &new) {
+    match changes_between_zones(answer.heap(), &old.zone, &new.zone) {
         Ok(changes) => {
             for change in changes.as_slice() {
-                add_change(change, answer);
+                add_change(&old, &new, *change, answer);
             }
         }
         Err(_) => lack(answer),
     }
-}
-
-/// Returns the records of a zone's text in a store, in canonical order.
-fn stored<'a>(
-    text: &[u8],
-    apex: &Name<&[u8]>,
-    answer: &mut Answer<'a>,
-) -> Option<StoredZone<&'a Heap>> {
-    let records = read(text, state_of(Some(apex)), answer)?;
-    let mut store = ZoneStore::new(answer.heap(), apex);
-    for record in records.as_slice() {
-        if store.add(record, 0, 0).is_err() {
-            lack(answer);
-            return None;
-        }
-    }
-    Some(store.sort())
 }
 
 /// Adds the digest of a zone by a hash algorithm.
@@ -236,15 +241,16 @@ fn digest(inputs: &[Vec<u8>], answer: &mut Answer) {
     let Some(apex) = origin else {
         return answer.fail(Failure::BadInputs);
     };
-    let Some(zone) = stored(text.as_slice(), &apex, answer) else {
+    let Some(sorted) = sorted_of(text.as_slice(), Some(&apex), answer) else {
         return;
     };
+    let zone = &sorted.zone;
     match number_of(hash.as_slice()) {
-        Some(1) => match sha384_digest(answer.heap(), &apex, &zone) {
+        Some(1) => match sha384_digest(answer.heap(), &apex, zone) {
             Ok(digest) => answer.add_shown(&base16::encode_display(digest.as_slice())),
             Err(error) => answer.refuse(&error),
         },
-        Some(2) => match sha512_digest(answer.heap(), &apex, &zone) {
+        Some(2) => match sha512_digest(answer.heap(), &apex, zone) {
             Ok(digest) => answer.add_shown(&base16::encode_display(digest.as_slice())),
             Err(error) => answer.refuse(&error),
         },
@@ -273,10 +279,11 @@ fn check(inputs: &[Vec<u8>], answer: &mut Answer) {
     let Some(apex) = origin else {
         return answer.fail(Failure::BadInputs);
     };
-    let Some(zone) = stored(text.as_slice(), &apex, answer) else {
+    let Some(sorted) = sorted_of(text.as_slice(), Some(&apex), answer) else {
         return;
     };
-    match check_digests(answer.heap(), &apex, &zone) {
+    let zone = &sorted.zone;
+    match check_digests(answer.heap(), &apex, zone) {
         Ok(verdicts) => {
             for verdict in verdicts.as_slice() {
                 answer.add_text(verdict_text(*verdict));
@@ -291,7 +298,7 @@ fn check(inputs: &[Vec<u8>], answer: &mut Answer) {
 fn rises((old, new): (&[u8], &[u8]), answer: &mut Answer) {
     let old = number32(old, answer);
     let new = number32(new, answer);
-    answer.add_bool(serial_rises(old, new));
+    answer.add_bool(is_after(old, new));
 }
 
 /// Adds whether signing a zone adds records of a type.

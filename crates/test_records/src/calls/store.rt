@@ -1,4 +1,4 @@
-//! Calls of `zone_set`: records in memory, and their octets.
+//! Calls of `zone_store`: records in memory, and their octets.
 ghost use Rattle.std.specs.Prelude.{◌≡◌, ◌^◌, length, nat_lt};
 
 use super::results::{Octets, number16, number32};
@@ -7,7 +7,7 @@ use rdata_values::{Class, RecordType};
 use std::alloc::AllocError;
 use test_support::input::number_of;
 use test_support::{Answer, Failure, Heap, Inputs};
-use zone_set::{
+use zone_store::{
     EntryHeader, GroupEntry, RecordStore, SortedStore, append_stored, push_counted, split_counted,
     split_record,
 };

@@ -5,14 +5,16 @@ use dns_lexer::position::Position;
 use finding_codes::code::{Code, Severity};
 use finding_codes::policy::Policy;
 use finding_codes::tally::Tally;
+use finding_formats::Finding;
+use finding_formats::excerpt::push_excerpt;
+use finding_formats::json::push_finding;
+use finding_formats::lines::push_lines;
 use std::alloc::AllocError;
 use std::str;
 use test_support::input::number_of;
 use test_support::{Answer, Failure, Inputs};
-use zonetext_report::excerpt::push_excerpt;
-use zonetext_report::finding::{Finding, push_lines};
-use zonetext_report::json::push_json;
-use zonetext_report::lint::{Block, lint, order_mark_len};
+use zone_check::lint::{Block, lint};
+use zonetext_lib::order_mark::order_mark_len;
 
 /// Answers a row: calls what it names.
 pub fn call(name: &str, inputs: &Inputs, answer: &mut Answer) {
@@ -101,26 +103,27 @@ fn add_result(form: Form, fields: &[Vec<u8>], answer: &mut Answer) {
     };
     let code = code_of(code.as_slice(), answer);
     let finding = Finding {
-        file: text_of(file.as_slice(), answer),
-        severity: code.default_severity(),
-        code,
+        file: file.as_slice(),
         position: Position {
             line: number(line.as_slice(), answer),
             column: number(column.as_slice(), answer),
         },
         end_column: number(end_column.as_slice(), answer),
         opened: opened_at(opened, answer),
-        owner: "",
-        rtype: "",
-        message: text_of(message.as_slice(), answer),
-        help: "",
-        note: "",
+        generate: None,
+        severity: code.default_severity(),
+        code,
+        owner: None,
+        rtype: None,
+        message: message.as_slice(),
+        help: None,
+        note: None,
     };
     let mut out = Vec::new(answer.heap());
     let told = match form {
         Form::Line => push_lines(&mut out, false, &finding),
         Form::Coloured => push_lines(&mut out, true, &finding),
-        Form::Json => push_json(&mut out, &finding),
+        Form::Json => push_finding(&mut out, &finding),
     };
     add_reported(told, out.as_slice(), answer);
 }
