@@ -1,11 +1,12 @@
 #!/usr/bin/env python3
 """Tries the samples in Rattle on pages: each is compiled, without proofs, and must end without an error.
 
-usage: .ci/samples.py [--list] [PAGE[:LINE]..]    without pages README, BINDINGS, RECORDS and the page of each crate
+usage: .ci/samples.py [--list] [PAGE[:LINE]..]    without pages README, BINDINGS, RECORDS, FIRST-CHANGE and that of each crate
 
 A sample is a block that begins with ```rust. The line above it is its mark:
 
     <!-- in: CODE -->             the sample is tried: after CODE, such as its `use`s, in a function
+    <!-- from: FILE -->           it must be in that file, which is proved; white space may differ
     <!-- fragment -->             it is not tried, since it has what only a reader has; a reason can follow, after a colon
 
 The function has an allocator `alloc`, and its `?` accepts each error. Each sample is a test of a crate `samples`, which
@@ -24,9 +25,10 @@ import sys
 import tempfile
 
 TOP = os.path.dirname(os.path.dirname(os.path.realpath(__file__)))
-PAGES = ["README.md", "docs/BINDINGS.md", "docs/RECORDS.md"]
-UNMARKED = 8
-SAMPLE = re.compile(r"(?:^<!-- ([^\n]*) -->\n)?^```rust\n(.*?)^```$", re.M | re.S)
+PAGES = ["README.md", "docs/BINDINGS.md", "docs/RECORDS.md", "docs/FIRST-CHANGE.md"]
+UNMARKED = 0
+# Also in an item of a list, where each line begins with blanks.
+SAMPLE = re.compile(r"(?:^ *<!-- ([^\n]*) -->\n)?^ *```rust\n(.*?)^ *```$", re.M | re.S)
 HEAD = """//! The samples.
 #![tactic(auto)]
 
@@ -63,6 +65,16 @@ class Sample:
     @property
     def surroundings(self):
         return self.mark[len("in:"):].strip() if self.mark and self.mark.startswith("in:") else None
+
+    def is_right(self):
+        """Returns whether the mark has a known form, and a sample from a file is in it."""
+        if self.mark is None or self.surroundings is not None or re.match(r"fragment\b", self.mark):
+            return True
+        file = self.mark.removeprefix("from:").strip()
+        if file == self.mark or not os.path.isfile(f"{TOP}/{file}"):
+            return False
+        with open(f"{TOP}/{file}", encoding="utf-8") as text:
+            return " ".join(self.code.split()) in " ".join(text.read().split())
 
 
 def samples(pages):
@@ -134,7 +146,7 @@ def main():
     found = list(samples(options.pages or [*PAGES, *own]))
     tried = [it for it in found if it.surroundings is not None]
     unmarked = [it for it in found if it.mark is None]
-    wrong = [it for it in found if it.mark and it.surroundings is None and not re.match(r"fragment\b", it.mark)]
+    wrong = [it for it in found if not it.is_right()]
     for it in found if options.list else [*wrong, *unmarked] if len(unmarked) > UNMARKED else wrong:
         print(f"{it.page}:{it.line - 1}: {it.mark or 'no mark'}")
     is_good = not wrong and len(unmarked) <= UNMARKED
