@@ -66,7 +66,7 @@ RULES = [
             "rdata_values/src/classes.rt": 3,  # (the table)
             "rdata_values/src/type_codes.rt": 97,  # (the table)
             "c_calls/src/records.rt": 2,
-            "zone_set/src/algorithm.rt": 3,
+            "zone_contents/src/algorithm.rt": 3,
             "zone_rules/src/pairs.rt": 2,
             "zone_rules/src/search.rt": 1,
         },
@@ -144,7 +144,7 @@ RULES = [
             "test_support/src/refusal.rt": 1,
             "test_api/src/checks.rt": 1,
             "zone_stream/src/cut_error.rt": 1,
-            "zone_set/src/error.rt": 1,
+            "zone_contents/src/error.rt": 1,
             "zone_dnssec/src/hashed.rt": 1,
             "zone_edit/src/edit.rt": 1,
             "zone_edit/src/serial.rt": 1,
@@ -167,7 +167,6 @@ RULES = [
             "c_calls/src/records.rt": 1,
             "finding_formats/src/record_json.rt": 1,  # (its fields in presentation format)
             "test_api/src/zones/example.rt": 1,
-            "zonetext_checker/src/record_arena.rt": 1,
         },
     ),
 ]
