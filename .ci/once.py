@@ -83,6 +83,7 @@ RULES = [
             "c_calls/src/records.rt": 1,
             "dns_text_c/src/data.rt": 3,
             "dns_text_c/src/values.rt": 2,
+            "zonetext_records/src/update.rt": 2,  # (numbers alone are copied in a loop)
         },
     ),
     Rule(
