@@ -14,8 +14,8 @@ use Rattle.std.proofs.lemmas.List.Elements.{All-head, All-tail}
 use Rattle.dns_charstr.specs.Printed.{quoted_text}
 use Rattle.dns_charstr.proofs.ReadBack.{quotes}
 use Rattle.dns_codec.specs.Base.{base16, base64, encoded}
-use Rattle.dns_entry.specs.Field.{field_text, text_octets}
-use Rattle.dns_entry.proofs.Words.{number_word, hex_word, base64_word, text_word}
+use Rattle.dns_zone.specs.EntryFields.{field_text, text_octets}
+use Rattle.dns_zone.proofs.EntryWords.{number_word, hex_word, base64_word, text_word}
 use Rattle.dns_lexer.specs.Lexeme.{is_note_char, is_quote_symbol}
 use Rattle.dns_lexer.specs.Splitting.{with_token}
 use Rattle.dns_lexer.specs.Token.{IsToken, IsQuote}

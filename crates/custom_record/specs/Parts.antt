@@ -5,7 +5,7 @@ use Rattle.std.specs.List.{list_all}
 use Rattle.dns_symbol.specs.Symbol.{is_printable}
 use Rattle.dns_codec.specs.Base.{base16, base64, encoded}
 use Rattle.dns_charstr.specs.Printed.{quoted_text}
-use Rattle.dns_entry.specs.Field.{field_text, text_octets}
+use Rattle.dns_zone.specs.EntryFields.{field_text, text_octets}
 use Rattle.dns_zone.specs.Layout.{Step, token, begin, end, comment}
 use Rattle.dns_zone.specs.Nesting.{is_nested}
 use Rattle.dns_wire.specs.ZoneText.{zone_text}

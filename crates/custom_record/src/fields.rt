@@ -4,14 +4,14 @@ ghost use Rattle.dns_symbol.specs.Cause.{Cause};
 ghost use Rattle.dns_scan.specs.Reads.{ReadsFirstToken, OctetsRead};
 ghost use Rattle.dns_scan.specs.Tokens.{Token};
 ghost use Rattle.dns_zone.specs.Layout.{token};
-ghost use Rattle.dns_entry.specs.Field.{text_octets};
+ghost use Rattle.dns_zone.specs.EntryFields.{text_octets};
 ghost use Rattle.custom_record.specs.FieldLaws.{number8_back, number16_back, number32_back, string_back, long_text_back, both_back, name_read};
 ghost use Rattle.custom_record.specs.ReadsBack.{FieldBack, ParsesAs, ParsesFields, ReadsFive, ReadsThree, five_values, three_values};
 ghost use Rattle.custom_record.specs.SpellingLaws.{number8_only, number16_only, number32_only, string_only, long_text_only, both_only, name_only};
 ghost use Rattle.custom_record.specs.Spellings.{AreSpellingsOf};
 ghost use Rattle.custom_record.specs.Values.{Value, number8, number16, number32, name, string, long_text, AreValues, AreTexts};
 ghost use Rattle.custom_record.specs.Parts.{string_step};
-ghost use Rattle.dns_entry.specs.Line.{field_step};
+ghost use Rattle.dns_zone.specs.EntryLines.{field_step};
 
 use dns_charstr::charstr::{CharStr, DisplayQuoted};
 use dns_iter::{IterScanner, ScanOctets};

@@ -22,8 +22,8 @@ use Rattle.dns_codec.proofs.Refusals.{reads}
 use Rattle.dns_codec.specs.declared.error.DecodeError.{DecodeError}
 use Rattle.dns_symbol.specs.Cause.{Cause, custom_text}
 use Rattle.dns_scan.specs.Tokens.{Token}
-use Rattle.dns_entry.proofs.Words.{ascii_bytes, encoded_all}
-use Rattle.dns_entry.specs.Codecs.{Codec, then_made, converted_symbols, ConvertsTo, codec_of}
+use Rattle.dns_zone.proofs.EntryWords.{ascii_bytes, encoded_all}
+use Rattle.dns_zone.specs.EntryCodecs.{Codec, then_made, converted_symbols, ConvertsTo, codec_of}
 
 -- the symbols of plain characters
 abbrev pub plain_symbols : List ℕ → List Symbol

@@ -11,7 +11,8 @@ use Rattle.dns_lexer.specs.Lexeme.{Lexeme, Blank, Line, Open, Close, Note, Word,
 use Rattle.dns_zone.specs.Layout.{Step, token, begin, end, comment, newline, layout, text_of_steps, depth, is_line_start, is_block_start, simple_piece, tabbed_piece, multiline_piece, is_shown}
 use Rattle.dns_zone.specs.Layout.{is_row_start, is_word, since, ends_row, indent}
 use Rattle.dns_zone.specs.Documents.{IsCommentText, IsProper, IsWellFormed}
-use Rattle.dns_zone.specs.Nesting.{is_nested, from_none_test}
+use Rattle.dns_zone.specs.Nesting.{is_nested}
+use Rattle.dns_zone.specs.Forming.{from_none_test}
 use Rattle.dns_zone.proofs.Nested.{nested_end, nested_in, nested_newline, nested_out}
 use Rattle.dns_laws.specs.Entries.{document_entries}
 use Rattle.dns_lexer.proofs.Tokens.{is_token_lexeme, token_one}

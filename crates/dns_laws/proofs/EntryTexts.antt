@@ -15,7 +15,7 @@ use Rattle.dns_scan.specs.Join.{IsJoin, IsSymbols}
 use Rattle.dns_scan.specs.Octets.{ReturnsWhere}
 use Rattle.dns_scan.specs.Tokens.{Token}
 use Rattle.dns_scan.proofs.Joined.{whole_join}
-use Rattle.dns_entry.specs.Codecs.{Codec, converted_symbols, AnswersConverted}
+use Rattle.dns_zone.specs.EntryCodecs.{Codec, converted_symbols, AnswersConverted}
 use Rattle.dns_laws.proofs.Converted.{is_plain, plain_read, plain_symbols, encoded_plain}
 use Rattle.dns_laws.proofs.Spelled.{gives_value, gives_only}
 

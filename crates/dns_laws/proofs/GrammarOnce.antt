@@ -15,7 +15,7 @@ use Rattle.dns_codec.specs.Group.{fresh}
 use Rattle.dns_codec.proofs.Each.{once}
 use Rattle.dns_codec.proofs.Numbers.{numbers}
 use Rattle.dns_scan.specs.Tokens.{Token}
-use Rattle.dns_entry.specs.Codecs.{converted_symbols, AnswersConverted, ConvertsTo, codec_of}
+use Rattle.dns_zone.specs.EntryCodecs.{converted_symbols, AnswersConverted, ConvertsTo, codec_of}
 use Rattle.dns_laws.specs.Encodings.{AnswersEncoding, HasGroups, IsRefusedAfter, NoEncoding, ReadsEncoding}
 use Rattle.dns_laws.proofs.GrammarReads.{reads_all}
 

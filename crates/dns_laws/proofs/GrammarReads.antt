@@ -20,7 +20,7 @@ use Rattle.dns_codec.specs.declared.base64.Padding.TheVariants.{Absent, One, Com
 use Rattle.dns_codec.proofs.Causes.{cases_error}
 use Rattle.dns_codec.proofs.Ends.{ended}
 use Rattle.dns_codec.proofs.Steps.{IsRead, read_none, stepped}
-use Rattle.dns_entry.specs.Codecs.{then_made, then_more, converted_symbols, made_of, codec_of}
+use Rattle.dns_zone.specs.EntryCodecs.{then_made, then_more, converted_symbols, made_of, codec_of}
 use Rattle.dns_laws.specs.Encodings.{BeginsEncoding, IsRefusedAfter, NoEncoding, ReadsEncoding}
 use Rattle.dns_laws.proofs.GrammarStands.{begins, blocked, closed_padded, groups, open_unpadded, unended}
 use Rattle.dns_laws.proofs.Spelled.{cases_char, char_there, no_char}

@@ -29,13 +29,13 @@ use Rattle.dns_zone.specs.Printed.{printed}
 use Rattle.dns_zone.specs.declared.zonefile_fmt.DisplayKind.{DisplayKind}
 use Rattle.dns_laws.specs.Entries.{document_entries}
 use Rattle.dns_laws.proofs.DocumentLayouts.{text_only}
-use Rattle.dns_entry.specs.Field.{Content, number, hex_octets, base64_octets, text_octets, IsContent, IsPrintable, field_text}
-use Rattle.dns_entry.specs.Line.{AreContents, IsLine, field_step, line_document}
-use Rattle.dns_entry.proofs.Words.{line_formed, number_word, hex_word, base64_word, text_word}
+use Rattle.dns_zone.specs.EntryFields.{Content, number, hex_octets, base64_octets, text_octets, IsContent, IsPrintable, field_text}
+use Rattle.dns_zone.specs.EntryLines.{AreContents, IsLine, field_step, line_document}
+use Rattle.dns_zone.proofs.EntryWords.{line_formed, number_word, hex_word, base64_word, text_word}
 use Rattle.dns_laws.specs.declared.lines.Refusal.TheVariants.{Split}
 use Rattle.dns_laws.specs.Encodings.{EncodingBack}
 use Rattle.dns_laws.specs.Lines.{line_entries, kind_of, IsLineRefusal, IsScannedOf, ReturnsField, ReturnsOctets}
-use Rattle.dns_entry.specs.declared.entry.FieldKind.TheVariants.{Number, Hex, Base64, Text}
+use Rattle.dns_zone.specs.declared.entry.FieldKind.TheVariants.{Number, Hex, Base64, Text}
 use Rattle.dns_laws.specs.declared.lines.Scanned.{Scanned}
 use Rattle.dns_laws.specs.declared.lines.Scanned.TheVariants.{Number as NumberScanned, Octets, Text as TextScanned}
 

@@ -17,7 +17,7 @@ use Rattle.dns_scan.specs.Reads.{NumberReads}
 use Rattle.dns_scan.specs.Tokens.{Token}
 use Rattle.rdata_values.specs.Numbers.{SpellsNumber}
 use Rattle.rdata_fields.specs.Words.{SpellsAs, SpellsBelow}
-use Rattle.dns_entry.proofs.Words.{ascii_bytes}
+use Rattle.dns_zone.proofs.EntryWords.{ascii_bytes}
 use Rattle.dns_laws.specs.Readers.{ReadsWire}
 use Rattle.dns_laws.proofs.Converted.{plain_symbols, is_plain, plain_read}
 

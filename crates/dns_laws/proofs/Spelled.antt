@@ -19,7 +19,7 @@ use Rattle.dns_codec.proofs.Each.{decodes}
 use Rattle.dns_symbol.specs.Cause.{Cause}
 use Rattle.dns_scan.specs.Octets.{ReturnsWhere}
 use Rattle.dns_scan.specs.Tokens.{Token}
-use Rattle.dns_entry.specs.Codecs.{Codec, then_made, then_more, converted_symbols, made_of, ConvertsTo, MadeOf, AnswersConverted, codec_of}
+use Rattle.dns_zone.specs.EntryCodecs.{Codec, then_made, then_more, converted_symbols, made_of, ConvertsTo, MadeOf, AnswersConverted, codec_of}
 use Rattle.dns_laws.proofs.Converted.{plain_symbols, is_plain, plain_read, plain_alphabet, encoded_plain}
 
 -- a step that went well, and what followed

@@ -12,7 +12,7 @@ use Rattle.dns_codec.specs.Grammar.{Decodes, IsEncodingOf}
 use Rattle.dns_scan.specs.Join.{IsJoin, IsSymbols}
 use Rattle.dns_scan.specs.Octets.{ReturnsWhere}
 use Rattle.dns_scan.specs.Tokens.{Token}
-use Rattle.dns_entry.specs.Codecs.{Codec, ConvertsTo}
+use Rattle.dns_zone.specs.EntryCodecs.{Codec, ConvertsTo}
 
 -- a token converts to these octets, and to nothing else
 abbrev pub ConvertsOnlyTo : Codec → Token → List ℕ → Type 0

@@ -6,17 +6,17 @@ use Rattle.dns_lexer.specs.Splitting.{Entries}
 use Rattle.dns_lexer.specs.Token.{IsWord}
 use Rattle.dns_symbol.specs.Cause.{Cause, short_buf, IsCause}
 use Rattle.dns_scan.specs.Tokens.{Token}
-use Rattle.dns_entry.specs.Field.{Content, number, hex_octets, base64_octets, text_octets, field_text, IsContent, IsPrintable, contents_of}
-use Rattle.dns_entry.specs.Line.{line_document}
-use Rattle.dns_entry.specs.EntryError.{IsEntryFault}
+use Rattle.dns_zone.specs.EntryFields.{Content, number, hex_octets, base64_octets, text_octets, field_text, IsContent, IsPrintable, contents_of}
+use Rattle.dns_zone.specs.EntryLines.{line_document}
+use Rattle.dns_zone.specs.EntryErrors.{IsEntryFault}
 use Rattle.dns_lexer.specs.declared.error.SplitError.TheVariants.{BadText, ShortBuf}
 use Rattle.dns_laws.specs.declared.lines.Refusal.{Refusal}
 use Rattle.dns_laws.specs.declared.lines.Refusal.TheVariants.{Line, Split}
-use Rattle.dns_entry.specs.declared.entry.FieldKind.{FieldKind}
-use Rattle.dns_entry.specs.declared.entry.FieldKind.TheVariants.{Number, Hex, Base64, Text}
+use Rattle.dns_zone.specs.declared.entry.FieldKind.{FieldKind}
+use Rattle.dns_zone.specs.declared.entry.FieldKind.TheVariants.{Number, Hex, Base64, Text}
 use Rattle.dns_laws.specs.declared.lines.Scanned.{Scanned}
 use Rattle.dns_laws.specs.declared.lines.Scanned.TheVariants.{Number as NumberScanned, Octets, Text as TextScanned}
-use Rattle.dns_entry.specs.declared.entry.Field.{Field}
+use Rattle.dns_zone.specs.declared.entry.Field.{Field}
 use Rattle.dns_zone.specs.Layout.{Step}
 
 -- the entries of a line: one, with a token for each field

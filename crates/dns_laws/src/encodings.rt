@@ -6,7 +6,7 @@ ghost use Rattle.dns_codec.specs.Grammar.{IsEncodingOf};
 ghost use Rattle.dns_symbol.specs.Cause.{Cause};
 ghost use Rattle.dns_scan.specs.Unread.{ConsumesAs};
 ghost use Rattle.dns_scan.specs.Tokens.{Token};
-ghost use Rattle.dns_entry.specs.Codecs.{AnswersConverted, ConvertsTo, codec_of};
+ghost use Rattle.dns_zone.specs.EntryCodecs.{AnswersConverted, ConvertsTo, codec_of};
 ghost use Rattle.dns_laws.specs.Encodings.{AnswersEncoding, EncodingBack, ConvertsOnlyTo};
 ghost use Rattle.dns_scan.specs.Reads.{HasOneAnswer};
 ghost use Rattle.std.specs.List.{AllByRecursion};

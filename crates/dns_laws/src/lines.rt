@@ -6,19 +6,19 @@ ghost use Rattle.dns_lexer.specs.Answer.{entries_of};
 ghost use Rattle.dns_lexer.specs.Splitting.{SplitsOnlyInto};
 ghost use Rattle.dns_zone.specs.Printed.{printed};
 ghost use Rattle.dns_zone.specs.declared.zonefile_fmt.DisplayKind.{DisplayKind};
-ghost use Rattle.dns_entry.specs.Field.{Content, contents_of};
-ghost use Rattle.dns_entry.specs.Line.{AreContents, IsLine, line_document};
+ghost use Rattle.dns_zone.specs.EntryFields.{Content, contents_of};
+ghost use Rattle.dns_zone.specs.EntryLines.{AreContents, IsLine, line_document};
 ghost use Rattle.dns_laws.specs.Lines.{IsLineRefusal, line_entries, KindBack, fields_steps, fields_line};
 
 use crate::encodings::{base64_is_scanned_back, hex_is_scanned_back};
 use crate::layouts::values_split;
 use dns_charstr::charstr::CharStr;
-use dns_entry::entry::{EntryError, EntryLine, Field, FieldKind};
-use dns_entry::laws::lines_are_lines;
 use dns_lexer::splitting::{SplitError, split};
 use dns_octets::AsOctets;
 use dns_scan::laws::character_strings_are_scanned_back;
 use dns_scan::{Scan, Scanner};
+use dns_zone::entry::laws::lines_are_lines;
+use dns_zone::entry::{EntryError, EntryLine, Field, FieldKind};
 use dns_zone::zonefile_fmt::DisplayKind;
 use std::alloc::{AllocError, Allocator};
 

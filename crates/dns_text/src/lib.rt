@@ -20,9 +20,8 @@
 
 pub use dns_charstr::charstr;
 pub use dns_codec::{base16, base32, base64};
-pub use dns_entry::entry;
 pub use dns_name::{chain, name};
-pub use dns_zone::{document, tokens, zonefile_fmt};
+pub use dns_zone::{document, entry, tokens, zonefile_fmt};
 pub use dnstext_lib::program;
 
 /// The units of presentation format.

@@ -7,7 +7,7 @@ use lib.Utf8.{scalars}
 use Rattle.dns_symbol.specs.Characters.{carriage_return, line_feed}
 use Rattle.dns_lexer.specs.Lexeme.{is_note_char}
 use Rattle.dns_zone.specs.Documents.{IsCommentText}
-use Rattle.dns_zone.specs.Nesting.{both_true, both_parts}
+use Rattle.dns_zone.specs.Forming.{both_true, both_parts}
 
 -- neither LF nor CR
 abbrev pub is_in_line : ℕ → Bool

@@ -8,3 +8,6 @@ pub mod Nested
 pub mod Scanned
 pub mod Written
 pub mod Lines
+pub mod EntryConverting
+pub mod EntryDocuments
+pub mod EntryWords

@@ -1,7 +1,8 @@
 -- Nesting, step by step.
 use Rattle.std.proofs.Common.{◌≡◌, ℕ, suc, ◌-◌, ◌<◌, true, List, ◌∷◌, refl, subst, arith}
 use Rattle.dns_zone.specs.Layout.{Step, token, begin, end, comment, newline}
-use Rattle.dns_zone.specs.Nesting.{is_nested, both_true, both_parts, some_test, none_test, from_some_test, from_none_test}
+use Rattle.dns_zone.specs.Nesting.{is_nested}
+use Rattle.dns_zone.specs.Forming.{both_true, both_parts, some_test, none_test, from_some_test, from_none_test}
 use Rattle.dns_zone.specs.Writers.{opened}
 
 -- a list nests after n open blocks if its first step is allowed there, and the rest nests after it

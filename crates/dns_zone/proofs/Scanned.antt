@@ -6,7 +6,8 @@ use Rattle.std.specs.List.{AllByRecursion}
 use Rattle.std.proofs.lemmas.Grind.{not_there}
 use Rattle.dns_zone.specs.Layout.{Step, token, begin, end, comment, newline, depth}
 use Rattle.dns_zone.specs.Documents.{item_step, item_steps, IsDocumentFault, ItemHasNoFault, IsFirstFault, IsProper, IsWellFormed}
-use Rattle.dns_zone.specs.Nesting.{is_nested, from_none_test}
+use Rattle.dns_zone.specs.Nesting.{is_nested}
+use Rattle.dns_zone.specs.Forming.{from_none_test}
 use Rattle.dns_zone.proofs.Nested.{nested_more, nested_rest, nested_end, nested_newline}
 use Rattle.dns_zone.specs.Writers.{opened}
 use Rattle.dns_zone.specs.declared.document.Item.{Item}

@@ -3,7 +3,8 @@ use Rattle.std.proofs.Common.{◌≡◌, ℕ, ◌+◌, ◌<◌, true, List, [], 
 use Rattle.std.proofs.lemmas.Fn.{FoldsTo-push}
 use Rattle.std.specs.List.{FoldsTo}
 use Rattle.dns_zone.specs.Layout.{Step, token, begin, end, comment, newline}
-use Rattle.dns_zone.specs.Nesting.{is_nested, IsNested, has_line, Fits, from_none_test}
+use Rattle.dns_zone.specs.Nesting.{is_nested, IsNested, has_line, Fits}
+use Rattle.dns_zone.specs.Forming.{from_none_test}
 use Rattle.dns_zone.proofs.Nested.{nested_rest, nested_end, nested_newline}
 use Rattle.dns_zone.specs.Writers.{WritesStep, WritesSteps, opened}
 

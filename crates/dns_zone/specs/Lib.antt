@@ -14,3 +14,7 @@ pub mod Tokens
 pub mod Each
 pub mod Forming
 pub mod Lines
+pub mod EntryFields
+pub mod EntryCodecs
+pub mod EntryLines
+pub mod EntryErrors

@@ -39,7 +39,8 @@
 //! ghost use Rattle.std.specs.Fmt.{decimal};
 //! ghost use Rattle.std.specs.String.{string_bytes};
 //! ghost use Rattle.dns_zone.specs.Layout.{token, begin, end, comment};
-//! ghost use Rattle.dns_zone.specs.Nesting.{has_line, nested_in_block};
+//! ghost use Rattle.dns_zone.specs.Nesting.{has_line};
+//! ghost use Rattle.dns_zone.specs.Forming.{nested_in_block};
 //!
 //! struct Mx {
 //!     preference: u16,
@@ -105,13 +106,14 @@
 //!                   )
 //! ```
 //!
-//! For values that print in a loop, `specs/Nesting.antt` has lemmas on documents one after another
+//! For values that print in a loop, `specs/Forming.antt` has lemmas on documents one after another
 //! (`nested_append`, `nested_lines`, `nested_in_block`, `no_line_append`), and `proofs/Runs.antt`
 //! has lemmas on the steps of a writer (`runs_none`, `runs_step`, `runs_append`, `runs_block`,
 //! `runs_then_step`).
 #![tactic(auto)]
 
 pub mod document;
+pub mod entry;
 pub mod error;
 pub mod laws;
 pub mod tokens;

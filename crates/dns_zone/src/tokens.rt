@@ -4,9 +4,9 @@ ghost use Rattle.dns_lexer.specs.Token.{IsToken};
 ghost use Rattle.dns_zone.specs.Documents.{IsWellFormed};
 ghost use Rattle.dns_zone.specs.Layout.{token};
 ghost use Rattle.dns_zone.specs.Each.{each_values, each_nested, each_formed};
-ghost use Rattle.dns_zone.specs.Forming.{formed_lines};
+ghost use Rattle.dns_zone.specs.Forming.{nested_lines, formed_lines};
 ghost use Rattle.dns_zone.specs.Lines.{lines_values};
-ghost use Rattle.dns_zone.specs.Nesting.{Fits, lines_of, nested_lines};
+ghost use Rattle.dns_zone.specs.Nesting.{Fits, lines_of};
 ghost use Rattle.dns_zone.specs.Tokens.{one_each};
 ghost use Rattle.dns_zone.specs.Writers.{StepsOnOk};
 

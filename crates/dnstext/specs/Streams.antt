@@ -10,7 +10,7 @@ usage_text = codes "usage: dnstext scan|print|line KIND WORD..\n       dnstext -
 
 -- the line that `--version` prints
 abbrev pub version_line : List ℕ
-version_line = codes "dnstext 0.2.0\n"
+version_line = codes "dnstext 0.3.0\n"
 
 -- the known bytes of a stream grow by these
 abbrev pub StreamGrows : Option (List ℕ) → List ℕ → Option (List ℕ) → Type 0

@@ -15,7 +15,7 @@ use std::io::Write;
 const USAGE: &str = "usage: dnstext scan|print|line KIND WORD..\n       dnstext --version\n";
 
 /// The line that `--version` prints.
-const VERSION_LINE: &str = "dnstext 0.2.0\n";
+const VERSION_LINE: &str = "dnstext 0.3.0\n";
 
 /// Maximum length of what is written to standard error: the line of an error, or the usage.
 const LINE_LENGTH: usize = 128;

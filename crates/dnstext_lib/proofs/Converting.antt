@@ -8,9 +8,9 @@ use Rattle.dns_codec.specs.Base.{Base}
 use Rattle.dns_codec.specs.Converting.{ConverterState, new_converter, Makes, convert, convert_tail}
 use Rattle.dns_scan.specs.Entries.{Converts, ConvertToken}
 use Rattle.dns_scan.specs.Tokens.{Token}
-use Rattle.dns_entry.proofs.Converting.{base_answer}
+use Rattle.dns_zone.proofs.EntryConverting.{base_answer}
 use Rattle.dnstext_lib.proofs.Fielding.{octets_stop}
-use Rattle.dns_entry.specs.Codecs.{Codec, ConvertsTo, OctetsPrint, codec_of}
+use Rattle.dns_zone.specs.EntryCodecs.{Codec, ConvertsTo, OctetsPrint, codec_of}
 use Rattle.dnstext_lib.specs.Program.{LineBy, OctetsLine, OctetsStop}
 use Rattle.dnstext_lib.specs.declared.program.RunError.{RunError}
 use Rattle.dnstext_lib.specs.declared.program.RunError.TheVariants.{Refused, WriteFailed}

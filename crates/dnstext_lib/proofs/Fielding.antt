@@ -11,13 +11,13 @@ use Rattle.dns_scan.specs.Numbers.{IsNumber, ScannedNumber}
 use Rattle.dns_scan.specs.Steps.{HasStepOctets, step_octet}
 use Rattle.dns_scan.specs.Tokens.{Token}
 use Rattle.dns_scan.proofs.Answered.{builds_read, all_given_in}
-use Rattle.dns_entry.specs.Field.{Content, content_of, contents_of, number, text_octets}
-use Rattle.dns_entry.specs.declared.entry.Field.{Field}
-use Rattle.dns_entry.specs.Codecs.{Codec, ConvertsTo, MadeOf}
+use Rattle.dns_zone.specs.EntryFields.{Content, content_of, contents_of, number, text_octets}
+use Rattle.dns_zone.specs.declared.entry.Field.{Field}
+use Rattle.dns_zone.specs.EntryCodecs.{Codec, ConvertsTo, MadeOf}
 use Rattle.dnstext_lib.specs.EntryLine.{Asked, AsksFields, asked_of, field_word, FieldsRun, FieldHolds, FirstHolds, NoField}
 use Rattle.dnstext_lib.specs.Print.{BeginsBy}
 use Rattle.dnstext_lib.specs.Program.{OctetsStop}
-use Rattle.dns_entry.specs.declared.entry.FieldKind.TheVariants.{Text}
+use Rattle.dns_zone.specs.declared.entry.FieldKind.TheVariants.{Text}
 use Rattle.dnstext_lib.specs.declared.line.FieldWord.{FieldWord}
 
 -- ---- one token

@@ -12,21 +12,21 @@ use Rattle.dns_scan.specs.Steps.{step_octet}
 use Rattle.dns_scan.specs.Tokens.{Token}
 use Rattle.dns_zone.specs.Printed.{printed}
 use Rattle.dns_zone.specs.declared.zonefile_fmt.DisplayKind.{DisplayKind}
-use Rattle.dns_entry.specs.Field.{Content, number, hex_octets, base64_octets, text_octets, content_of}
-use Rattle.dns_entry.specs.Line.{IsLine, line_document}
-use Rattle.dns_entry.specs.EntryError.{IsEntryFault, entry_error_text}
-use Rattle.dns_entry.specs.declared.error.EntryError.{EntryError}
-use Rattle.dns_entry.specs.Codecs.{ConvertsTo, hex_codec, base64_codec}
+use Rattle.dns_zone.specs.EntryFields.{Content, number, hex_octets, base64_octets, text_octets, content_of}
+use Rattle.dns_zone.specs.EntryLines.{IsLine, line_document}
+use Rattle.dns_zone.specs.EntryErrors.{IsEntryFault, entry_error_text}
+use Rattle.dns_zone.specs.declared.entry.error.EntryError.{EntryError}
+use Rattle.dns_zone.specs.EntryCodecs.{ConvertsTo, hex_codec, base64_codec}
 use Rattle.dnstext_lib.specs.Print.{layout_name, NoMemory}
 use Rattle.dnstext_lib.specs.Program.{IsRefused, cause_text}
 use Rattle.dns_scan.specs.StrError.{str_cause}
 use Rattle.dnstext_lib.specs.declared.program.ScanKind.TheVariants.{U32, Charstr, Hex as HexScan, Base64 as Base64Scan}
-use Rattle.dns_entry.specs.declared.entry.FieldKind.{FieldKind}
-use Rattle.dns_entry.specs.declared.entry.FieldKind.TheVariants.{Number, Hex, Base64, Text}
+use Rattle.dns_zone.specs.declared.entry.FieldKind.{FieldKind}
+use Rattle.dns_zone.specs.declared.entry.FieldKind.TheVariants.{Number, Hex, Base64, Text}
 use Rattle.dnstext_lib.specs.declared.line.FieldWord.{FieldWord}
 use Rattle.dnstext_lib.specs.declared.line.FieldsError.{FieldsError}
 use Rattle.dnstext_lib.specs.declared.line.FieldsError.TheVariants.{Refused, NoMemory as OutOfMemory}
-use Rattle.dns_entry.specs.declared.entry.Field.{Field}
+use Rattle.dns_zone.specs.declared.entry.Field.{Field}
 use Rattle.dns_scan.specs.declared.error.StrError.{StrError}
 
 -- the kind of a field, and the text of its token

@@ -16,7 +16,7 @@ use Rattle.dns_scan.specs.Numbers.{IsNumber, ReadsNumber, greatest}
 use Rattle.dns_scan.specs.Octets.{unquoted_token}
 use Rattle.dns_scan.specs.Steps.{step_octet}
 use Rattle.dns_scan.specs.Tokens.{Token}
-use Rattle.dns_entry.specs.Codecs.{Codec, MadeOf, OctetsPrint, OctetsRefused, hex_codec, base32hex_codec, base64_codec}
+use Rattle.dns_zone.specs.EntryCodecs.{Codec, MadeOf, OctetsPrint, OctetsRefused, hex_codec, base32hex_codec, base64_codec}
 use Rattle.dns_iter.specs.Name.{NameRead}
 use Rattle.dnstext_lib.specs.declared.program.ScanKind.{ScanKind}
 use Rattle.dnstext_lib.specs.declared.program.ScanKind.TheVariants.{U8, U16, U32, U64, U128, Ttl, Charstr, Hex, Base32hex, Base64, Name}

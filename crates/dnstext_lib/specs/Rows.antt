@@ -8,7 +8,7 @@ use Rattle.dns_codec.specs.Group.{fresh}
 use Rattle.dns_codec.specs.Base.{base16, value}
 use Rattle.dns_codec.specs.Grammar.{IsEncodingOf}
 use Rattle.dns_symbol.specs.Cause.{custom_text}
-use Rattle.dns_entry.specs.Codecs.{converted_symbols, made_of, hex_codec, base32hex_codec}
+use Rattle.dns_zone.specs.EntryCodecs.{converted_symbols, made_of, hex_codec, base32hex_codec}
 
 -- a simple escape counts as its character, and letter case doesn't matter
 escaped : IsEncodingOf base16 (codes "Ca\\FE") (202 ∷ 254 ∷ [])

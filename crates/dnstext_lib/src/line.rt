@@ -1,7 +1,7 @@
 //! The command `line`: an entry line from arguments.
 ghost use Rattle.std.specs.Prelude.{◌≡◌, ◌⊎◌, ◌≤◌, List, Err, IfOk, MatchResult, map, None};
 ghost use Rattle.std.specs.Fmt.{WritesInCalls};
-ghost use Rattle.dns_entry.specs.Field.{contents_of};
+ghost use Rattle.dns_zone.specs.EntryFields.{contents_of};
 ghost use Rattle.dnstext_lib.specs.EntryLine.{Asked, asked_of, field_word, AsksFields, FieldsRun, FieldsUnmade, LinePrinted, LineRefused, AsksNoFields, MakesField};
 ghost use Rattle.dnstext_lib.specs.Print.{BeginsBy};
 ghost use Rattle.dnstext_lib.specs.Program.{usage_line, bytes_of_words, HasReason, IsNamedBy, ShowsReason};
@@ -9,9 +9,9 @@ ghost use Rattle.dnstext_lib.specs.Program.{usage_line, bytes_of_words, HasReaso
 use crate::print::Error;
 use crate::program::{refuse, refuse_usage};
 use dns_codec::{base16, base64};
-use dns_entry::entry::{EntryLine, Field, FieldKind};
 use dns_iter::IterScanner;
 use dns_scan::{Scan, Scanner, StrError};
+use dns_zone::entry::{EntryLine, Field, FieldKind};
 use dns_zone::zonefile_fmt::{DisplayKind, ZonefileFmt};
 use std::alloc::Allocator;
 use std::fmt::{Display, Write};

@@ -2,8 +2,8 @@ use Rattle.std.proofs.Common.{ℕ, List}
 use Rattle.dns_scan.specs.Octets.{ReturnsWhere}
 use Rattle.dns_scan.proofs.Whole.{of_first}
 use Rattle.dns_codec.specs.Grammar.{IsEncodingOf}
-use Rattle.dns_entry.specs.Codecs.{codec_of}
-use Rattle.dns_entry.proofs.Converting.{base_answer}
+use Rattle.dns_zone.specs.EntryCodecs.{codec_of}
+use Rattle.dns_zone.proofs.EntryConverting.{base_answer}
 use Rattle.dns_laws.proofs.Converted.{base_text, base_only}
 use Rattle.dns_laws.proofs.GrammarOnce.{by_grammar}
 use Rattle.dns_laws.proofs.Spelled.{gives_value, gives_only, base_encoding, base_same, base_needs}

@@ -1,4 +1,4 @@
-use Rattle.dns_entry.specs.Codecs.{codec_of}
+use Rattle.dns_zone.specs.EntryCodecs.{codec_of}
 use Rattle.dns_laws.proofs.Spelled.{answers_once}
 use Rattle.dns_laws.proofs.encodings.encodings_are_answered_in_one_way.Goals as goal
 

@@ -1,7 +1,7 @@
 use Rattle.std.proofs.Common.{sym, ◌∙◌}
 use Rattle.dns_codec.specs.Base.{encoded}
 use Rattle.dns_codec.proofs.Each.{decodes}
-use Rattle.dns_entry.specs.Codecs.{codec_of}
+use Rattle.dns_zone.specs.EntryCodecs.{codec_of}
 use Rattle.dns_laws.proofs.Converted.{converts_plain, encoded_plain, plain_alphabet, base_text}
 use Rattle.dns_laws.proofs.encodings.encodings_convert_back.Goals as goal
 

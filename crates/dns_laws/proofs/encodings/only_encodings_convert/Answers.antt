@@ -1,4 +1,4 @@
-use Rattle.dns_entry.specs.Codecs.{codec_of}
+use Rattle.dns_zone.specs.EntryCodecs.{codec_of}
 use Rattle.dns_laws.proofs.Converted.{base_text, base_only}
 use Rattle.dns_laws.proofs.Spelled.{spelled, converts, base_same, base_needs}
 use Rattle.dns_laws.proofs.encodings.only_encodings_convert.Goals as goal

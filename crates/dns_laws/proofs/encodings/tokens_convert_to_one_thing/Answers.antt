@@ -1,4 +1,4 @@
-use Rattle.dns_entry.specs.Codecs.{codec_of}
+use Rattle.dns_zone.specs.EntryCodecs.{codec_of}
 use Rattle.dns_laws.proofs.Spelled.{converts_once}
 use Rattle.dns_laws.proofs.encodings.tokens_convert_to_one_thing.Goals as goal
 

@@ -1,7 +1,7 @@
 use Rattle.std.proofs.Common.{ℕ, List}
 use Rattle.dns_scan.specs.Join.{IsJoin}
-use Rattle.dns_entry.specs.Codecs.{AnswersConverted, codec_of}
-use Rattle.dns_entry.proofs.Converting.{base_answer}
+use Rattle.dns_zone.specs.EntryCodecs.{AnswersConverted, codec_of}
+use Rattle.dns_zone.proofs.EntryConverting.{base_answer}
 use Rattle.dns_laws.proofs.Converted.{base_text, base_only, plain_alphabet}
 use Rattle.dns_laws.proofs.EntryTexts.{entry_back, entry_only, entry_whole}
 use Rattle.dns_laws.proofs.GrammarOnce.{by_grammar}

@@ -1,5 +1,5 @@
 use Rattle.std.proofs.Common.{subst, sym, string_bytes}
-use Rattle.dns_entry.specs.Field.{contents_of}
+use Rattle.dns_zone.specs.EntryFields.{contents_of}
 use Rattle.dns_lexer.specs.Splitting.{SplitsOnlyInto}
 use Rattle.dns_laws.specs.Lines.{line_entries}
 use Rattle.dns_laws.proofs.LineTokens.{split_refusal}

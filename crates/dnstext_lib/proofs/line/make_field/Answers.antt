@@ -3,13 +3,13 @@ use Rattle.std.proofs.lemmas.Iterator.Adapters.{YieldsList-from_once}
 use Rattle.std.proofs.lemmas.Result.{err_from_is_err_and}
 use Rattle.dns_codec.specs.Base.{base16, base64}
 use Rattle.dns_octets.specs.Room.{of_memory}
-use Rattle.dns_entry.specs.Field.{number, hex_octets, base64_octets, text_octets}
+use Rattle.dns_zone.specs.EntryFields.{number, hex_octets, base64_octets, text_octets}
 use Rattle.dns_symbol.specs.Cause.{Cause}
 use Rattle.dns_scan.specs.Numbers.{greatest}
 use Rattle.dns_scan.proofs.Whole.{of_first}
 use Rattle.dnstext_lib.specs.EntryLine.{FieldHolds, NoField}
 use Rattle.dns_scan.specs.StrError.{str_cause}
-use Rattle.dns_entry.proofs.Converting.{base_answer}
+use Rattle.dns_zone.proofs.EntryConverting.{base_answer}
 use Rattle.dnstext_lib.proofs.Fielding.{number_held, text_held, octets_stop}
 use Rattle.dnstext_lib.proofs.Printing.{number_refused, charstr_stops}
 use Rattle.dns_iter.proofs.Roads.{texts_from}

@@ -1,8 +1,8 @@
 use Rattle.std.proofs.Common.{rules, []}
 use Rattle.std.proofs.lemmas.List.{drop_more}
-use Rattle.dns_entry.specs.Field.{content_of, contents_of}
+use Rattle.dns_zone.specs.EntryFields.{content_of, contents_of}
 use Rattle.dns_scan.specs.StrError.{str_cause}
-use Rattle.dns_entry.specs.declared.entry.FieldKind.TheVariants.{Number}
+use Rattle.dns_zone.specs.declared.entry.FieldKind.TheVariants.{Number}
 use Rattle.dnstext_lib.specs.declared.line.FieldWord.{FieldWord}
 use Rattle.dnstext_lib.proofs.Fielding.{fields_more, fields_stop, fields_all, first_held}
 use Rattle.dnstext_lib.proofs.Printing.{drop_all}

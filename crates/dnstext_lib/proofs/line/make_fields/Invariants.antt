@@ -1,4 +1,4 @@
-use Rattle.dns_entry.specs.Field.{contents_of}
+use Rattle.dns_zone.specs.EntryFields.{contents_of}
 use Rattle.dnstext_lib.proofs.Fielding.{FieldsSoFar}
 use Rattle.dnstext_lib.proofs.line.make_fields.Given as goal
 

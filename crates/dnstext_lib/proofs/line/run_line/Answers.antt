@@ -1,7 +1,7 @@
 use Rattle.std.proofs.Common.{refl, ap, inl, inr, Err, map}
 use Rattle.std.specs.Prelude.{codes}
-use Rattle.dns_entry.specs.Field.{contents_of}
-use Rattle.dns_entry.specs.EntryError.{entry_error_text}
+use Rattle.dns_zone.specs.EntryFields.{contents_of}
+use Rattle.dns_zone.specs.EntryErrors.{entry_error_text}
 use Rattle.dnstext_lib.specs.EntryLine.{asked_of}
 use Rattle.dnstext_lib.specs.Program.{cause_text, bytes_of_words}
 use Rattle.dns_scan.specs.StrError.{str_cause}

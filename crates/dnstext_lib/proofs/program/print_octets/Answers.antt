@@ -1,7 +1,7 @@
 use Rattle.std.proofs.Common.{refl}
 use Rattle.dns_scan.specs.Entries.{Converts, ConvertToken}
 use Rattle.dns_scan.proofs.Whole.{of_first}
-use Rattle.dns_entry.proofs.Converting.{converted_value, converted_refusal}
+use Rattle.dns_zone.proofs.EntryConverting.{converted_value, converted_refusal}
 use Rattle.dnstext_lib.proofs.Printing.{octets_line}
 use Rattle.dnstext_lib.proofs.program.print_octets.Goals as goal
 

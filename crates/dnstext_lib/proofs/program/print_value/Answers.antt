@@ -1,6 +1,6 @@
 use Rattle.dns_codec.specs.Base.{base16, base32hex, base64}
 use Rattle.std.proofs.Common.{subst, sym}
-use Rattle.dns_entry.specs.Codecs.{hex_codec, base32hex_codec, base64_codec}
+use Rattle.dns_zone.specs.EntryCodecs.{hex_codec, base32hex_codec, base64_codec}
 use Rattle.dnstext_lib.specs.Program.{LineWritten}
 use Rattle.dnstext_lib.proofs.Converting.{base_stops, octets_line}
 use Rattle.dnstext_lib.proofs.program.print_value.Goals as goal

@@ -1,3 +1,0 @@
-pub mod Converting
-pub mod Lines
-pub mod Words

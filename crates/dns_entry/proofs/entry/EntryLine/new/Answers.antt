@@ -1,5 +1,0 @@
-use Rattle.dns_entry.proofs.Lines.{empty_refuses}
-use Rattle.dns_entry.proofs.entry.EntryLine.new.Goals as goal
-
-pub returns-in-Some-clause-accepts : goal.returns-in-Some-clause-accepts
-returns-in-Some-clause-accepts g c = (λ e. cc, λ line. absurd (empty_refuses _ _ c.in-Some.ensures.some (rw c.deref.ensures.value line)))

@@ -1,7 +1,0 @@
-use Rattle.std.proofs.Common.{take}
-use Rattle.dns_entry.specs.Field.{contents_of}
-use Rattle.dns_entry.proofs.Lines.{InLine}
-use Rattle.dns_entry.proofs.entry.EntryLineZonefileFmt.fmt.Given as goal
-
-abbrev pub invariant-loop-field : goal.invariant-loop-field
-invariant-loop-field g l = InLine g.F.FormatWriter.blocks g.F.FormatWriter.step_gives l.initial.p (contents_of (take l.field-index l.field-items)) l.p

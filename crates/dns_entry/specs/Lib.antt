@@ -1,4 +1,0 @@
-pub mod Codecs
-pub mod Field
-pub mod Line
-pub mod EntryError
