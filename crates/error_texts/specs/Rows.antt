@@ -5,7 +5,7 @@ use Rattle.dns_lexer.specs.declared.pieces.Wrong.TheVariants.{Closing, OpenParen
 use Rattle.rdata_values.specs.Rtype as Rtype
 use Rattle.rdata_values.specs.Types.{type_rows}
 use Rattle.rdata_values.specs.declared.error.ErrorKind.{ErrorKind}
-use Rattle.rdata_values.specs.declared.error.ErrorKind.TheVariants.{ShortBuf, Syntax, EndOfEntry, TrailingToken, Quoted, QuotedName, NotQuoted, ExpectedNumber, NumberOverflow, ExpectedIpv4, ExpectedIpv6, ExpectedTtl, ExpectedInterval, ExpectedTime, UnknownType, UnknownClass, UnknownAlgorithm, UnknownCertificate, UnknownScheme, ExpectedEui48, ExpectedEui64, ExpectedLocator, ExpectedSalt, ExpectedPsdnAddress, BadEscape, LongString, BadTag, EmptyLabel, LongLabel, LongName, NoOrigin, ExpectedHex, UnevenHex, IllegalBase64, TrailingBase64, IncompleteBase64, IllegalBase32, ShortBase32, LongHash, ExpectedLatitude, ExpectedLongitude, ExpectedAltitude, ExpectedSize, ExpectedEnd, ExpectedPrefix, ExpectedGateway, UnknownGateway, QuotedParam, GluedParam, UnknownKey, UnexpectedValue, RepeatedKey, LongValue, RepeatedParam, ListString, ListEscape, ShortParams, ParamOrder, ParamValue, MissingParam, TypeZero, NotOfType, NoDataType, NoTextForm, WrongLength, TrailingArgument, NotSupported, UnknownDirective, NoOwner, RefusedOwner, NoTtl}
+use Rattle.rdata_values.specs.declared.error.ErrorKind.TheVariants.{ShortBuf, Syntax, EndOfEntry, TrailingToken, Quoted, QuotedName, NotQuoted, ExpectedNumber, NumberOverflow, ExpectedIpv4, ExpectedIpv6, ExpectedTtl, ExpectedInterval, ExpectedTime, UnknownType, UnknownClass, UnknownAlgorithm, UnknownCertificate, UnknownScheme, ExpectedEui48, ExpectedEui64, ExpectedLocator, ExpectedSalt, ExpectedPsdnAddress, BadEscape, LongString, BadTag, EmptyLabel, LongLabel, LongName, NoOrigin, ExpectedHex, UnevenHex, IllegalBase64, TrailingBase64, IncompleteBase64, IllegalBase32, ShortBase32, LongHash, ExpectedLatitude, ExpectedLongitude, ExpectedAltitude, ExpectedSize, ExpectedEnd, ExpectedPrefix, ExpectedNsap, ExpectedGateway, UnknownGateway, ExpectedHit, LongKey, QuotedParam, GluedParam, UnknownKey, UnexpectedValue, RepeatedKey, LongValue, RepeatedParam, ListString, ListEscape, ShortParams, ParamOrder, ParamValue, MissingParam, TypeZero, NotOfType, NoDataType, NoTextForm, WrongLength, TrailingArgument, NotSupported, UnknownDirective, NoOwner, RefusedOwner, NoTtl}
 use Rattle.error_texts.specs.Contents.{digest_text, high_escape_text, long_string_text}
 use Rattle.error_texts.specs.Digests.{digest_name, digest_place}
 use Rattle.error_texts.specs.Errors.{error_type_prefix, kind_text, part_prefix}
@@ -28,7 +28,7 @@ texts =
     (NumberOverflow 255, codes "decimal number overflow") ∷
     (ExpectedIpv4, codes "expected IPv4 address") ∷
     (ExpectedIpv6, codes "expected IPv6 address") ∷
-    (ExpectedTtl, codes "expected time to live") ∷
+    (ExpectedTtl, codes "expected TTL") ∷
     (ExpectedInterval, codes "expected interval") ∷
     (ExpectedTime, codes "expected signature time") ∷
     (UnknownType, codes "unknown record type") ∷
@@ -62,8 +62,11 @@ texts =
     (ExpectedSize, codes "expected size") ∷
     (ExpectedEnd, codes "expected end of entry") ∷
     (ExpectedPrefix, codes "expected address prefix") ∷
+    (ExpectedNsap, codes "expected 0x and hex digits") ∷
     (ExpectedGateway, codes "expected gateway") ∷
     (UnknownGateway, codes "unknown gateway type") ∷
+    (ExpectedHit, codes "expected 1 to 255 octets in hex") ∷
+    (LongKey, codes "key with more than 65535 octets") ∷
     (QuotedParam, codes "expected service parameter without quotes") ∷
     (GluedParam, codes "token touches a service parameter") ∷
     (UnknownKey, codes "unknown key of a service parameter") ∷
@@ -95,7 +98,7 @@ texts =
     (UnknownDirective, codes "unknown directive") ∷
     (NoOwner, codes "no owner") ∷
     (RefusedOwner, codes "the owner before is refused") ∷
-    (NoTtl, codes "no time to live") ∷
+    (NoTtl, codes "no TTL") ∷
     []
 
 every_kind : map (λ (row : ErrorKind × List ℕ). kind_text None row.0) texts ≡ map (λ (row : ErrorKind × List ℕ). row.1) texts

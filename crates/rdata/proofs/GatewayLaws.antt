@@ -271,7 +271,7 @@ pub record IsKeyed (a b : ℕ) (octets : List ℕ) : Type 0 where
   pub is_wire : (gateway_form None a).is_wire gateway
   pub some : key ≡ [] → b ≡ 0
 
-one_octet : (front : List ℕ) → length front ≡ 1 → front ≡ slice_index front 0 ∷ []
+pub one_octet : (front : List ℕ) → length front ≡ 1 → front ≡ slice_index front 0 ∷ []
 one_octet [] h = absurd (omega (arith, h))
 one_octet (o ∷ []) h = refl
 one_octet (o ∷ p ∷ os) h = absurd (omega (arith, h))

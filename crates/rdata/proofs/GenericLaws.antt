@@ -89,3 +89,14 @@ generic_spelled count (m ∷ ts) first left final old new mark is counted gained
     let many : count ≡ length octets = omega (arith, size, long) in
     let spelled : SpellsGeneric (m ∷ t ∷ left) octets = (mark, subst (IsCount t) many counted.2, gained.1.1) in
     (gained.0, (octets, subst (λ z. SpellsGeneric (m ∷ z) octets) (sym all) spelled, gained.1.2))
+
+-- tokens of the generic form begin with its mark, and spell one list of octets
+pub begins_so : (tokens : List TokenSeen) (octets : List ℕ) → SpellsGeneric tokens octets → BeginsGeneric tokens
+begins_so [] octets h = absurd h
+begins_so (mark ∷ []) octets h = absurd h
+begins_so (mark ∷ count ∷ digits) octets h = h.0
+
+pub generic_once : (tokens : List TokenSeen) (a b : List ℕ) → SpellsGeneric tokens a → SpellsGeneric tokens b → a ≡ b
+generic_once [] a b h k = absurd h
+generic_once (mark ∷ []) a b h k = absurd h
+generic_once (mark ∷ count ∷ digits) a b h k = joined_once Hex digits a b h.2 k.2

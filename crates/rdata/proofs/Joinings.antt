@@ -34,7 +34,7 @@ pub record HasJoined (first s : DigitsState) (tokens : List TokenSeen) (old : Li
   pub pieces : AcceptsPiece first (joined_words before) gained s
   pub octets : new ≡ old ++ gained
 
-joined_parts : (xs ys : List TokenSeen) → joined_words (xs ++ ys) ≡ joined_words xs ++ joined_words ys
+pub joined_parts : (xs ys : List TokenSeen) → joined_words (xs ++ ys) ≡ joined_words xs ++ joined_words ys
 joined_parts [] ys = refl
 joined_parts (x ∷ xs) ys = ap (λ t. x.text ++ t) (joined_parts xs ys) ∙ sym (append_assoc x.text (joined_words xs) (joined_words ys))
 
@@ -45,7 +45,7 @@ unquoted_more : (xs : List TokenSeen) (t : TokenSeen) → AreUnquoted xs → t.i
 unquoted_more [] t h plain = (plain, tt)
 unquoted_more (x ∷ xs) t h plain = (h.0, unquoted_more xs t h.1 plain)
 
-unquoted_at : (xs ts : List TokenSeen) (t : TokenSeen) → AreUnquoted (xs ++ t ∷ ts) → t.is_quoted ≡ false
+pub unquoted_at : (xs ts : List TokenSeen) (t : TokenSeen) → AreUnquoted (xs ++ t ∷ ts) → t.is_quoted ≡ false
 unquoted_at [] ts t h = h.0
 unquoted_at (x ∷ xs) ts t h = unquoted_at xs ts t h.1
 
@@ -100,7 +100,7 @@ module _ (kind : DigitsKind) (first s : DigitsState) (same : first.kind ≡ kind
       record {
         at = placed e (place ∙ ap (next_place left) ends);
         why = inr (
-          (h.before, h.whole, (h.unquoted, goes, subst (λ l. JoinedReason kind h.before l e) (sym none) (is ∙ ap unfinished kept))),
+          (h.before, h.whole, (h.unquoted, goes, subst (λ l. JoinedReason kind h.before l e) (sym none) (is ∙ ap unfinished kept, unspelled))),
           λ octets sp. unspelled octets (subst (λ ts. SpellsJoined (base_of kind) ts octets) (all_before none) sp).1,
         );
         extends = (h.gained, h.octets);

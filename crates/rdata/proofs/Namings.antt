@@ -58,13 +58,13 @@ names_once (t ∷ ts) (a ∷ as_) (b ∷ bs) h k =
     let back : as_ ≡ bs = names_once ts as_ bs h.1 k.1 in
     cc (front, back)
 
-names_at : (before ts : List TokenSeen) (t : TokenSeen) (types : List ℕ) → NameTypes (before ++ t ∷ ts) types → (rtype : ℕ) × NamesType t rtype
+pub names_at : (before ts : List TokenSeen) (t : TokenSeen) (types : List ℕ) → NameTypes (before ++ t ∷ ts) types → (rtype : ℕ) × NamesType t rtype
 names_at [] ts t [] h = absurd h
 names_at [] ts t (c ∷ cs) h = (c, h.0)
 names_at (b ∷ bs) ts t [] h = absurd h
 names_at (b ∷ bs) ts t (c ∷ cs) h = names_at bs ts t cs h.1
 
-never_both : (t : TokenSeen) (e : ErrorKind) (rtype : ℕ) → NamesNone t e → NamesType t rtype → ⊥
+pub never_both : (t : TokenSeen) (e : ErrorKind) (rtype : ℕ) → NamesNone t e → NamesType t rtype → ⊥
 never_both t e rtype (inl h) k = true≢false (sym h.1 ∙ k.0)
 never_both t e rtype (inr h) k = elim h.1 [
   | inl none ↦ none.1 rtype k.1

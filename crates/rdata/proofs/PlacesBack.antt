@@ -156,7 +156,7 @@ prefixes_back octets tokens is p = each_back prefix_form prefix_back no_item oct
 
 -- ---- gateways and keys
 
-octet_back : IsBack octet_form octet_form.spells
+pub octet_back : IsBack octet_form octet_form.spells
 octet_back = record {
   back = λ octets t is quoted text. (
       let law : SpellsField None OfNumber8 (record t { is_quoted = false; text = (field_form None OfNumber8).printed octets }) octets = (fields_are_forms None tt OfNumber8).back octets is in

@@ -15,7 +15,7 @@ use Rattle.rdata.specs.Rests.{RestForm}
 use Rattle.rdata.specs.TokenForms.{TokenForm, SpellOctets, AreParts, SpellsThen, IsThen}
 use Rattle.rdata.proofs.GatewayLaws.{behind_algorithm, behind_type}
 
-each_wire : (f : TokenForm) → ((t : TokenSeen) (octets : List ℕ) → AreOctetValues t.text → f.spells t octets → f.is_wire octets)
+pub each_wire : (f : TokenForm) → ((t : TokenSeen) (octets : List ℕ) → AreOctetValues t.text → f.spells t octets → f.is_wire octets)
     → (tokens : List TokenSeen) (octets : List ℕ) → HoldOctets tokens → SpellOctets f tokens octets → AreParts f.is_wire octets
 each_wire f each [] octets h k = ([], tt, k)
 each_wire f each (t ∷ ts) octets h k =

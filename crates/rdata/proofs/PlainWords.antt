@@ -18,8 +18,9 @@ use Rattle.std.proofs.lemmas.Str.{encode_ascii}
 use Rattle.dns_codec.specs.Bits.{digits}
 use Rattle.dns_codec.specs.Base.{Base, base16, base32hex, base64, digit_char, padded, encoded}
 use Rattle.rdata_tokens.proofs.Spelling.{size16, size32, size64}
+use Rattle.rdata_tails.specs.Nsap.{nsap_text}
 use Rattle.rdata_values.specs.Eui.{dashed_text}
-use Rattle.rdata_values.specs.Hex.{pair_digit, pair_text, pairs_text}
+use Rattle.rdata_values.specs.Hex.{pair_digit, pair_text, pairs_text, small_pairs}
 use Rattle.dns_lexer.specs.Token.{IsWord}
 use Rattle.dns_symbol.specs.Symbol.{bytes, is_word_symbol}
 use Rattle.dns_symbol.specs.declared.symbol.Symbol.TheVariants.{Char}
@@ -136,6 +137,14 @@ pairs_plain (o ∷ os) all =
 
 pair_word : (o : ℕ) → o < 256 → IsPlainWord (pair_text 97 o)
 pair_word o low = record { some = omega arith; plain = rw (small_pair (o / 16) (omega (arith, low)), small_pair (o % 16) (omega (arith, low))) refl }
+
+small_pairs_plain : (octets : List ℕ) → All (λ o. o < 256) octets → ArePlain (small_pairs octets)
+small_pairs_plain [] all = refl
+small_pairs_plain (o ∷ os) all = plain_append (pair_text 97 o) (small_pairs os) (pair_word o (All-head IsOctet o os all)).plain (small_pairs_plain os (All-tail IsOctet o os all))
+
+-- `0x` and such pairs
+pub nsap_word : (octets : List ℕ) → All (λ o. o < 256) octets → IsPlainWord (nsap_text octets)
+nsap_word octets all = word_before 48 (120 ∷ small_pairs octets) refl (plain_before 120 (small_pairs octets) refl (small_pairs_plain octets all))
 
 pub dashed_word : (o : ℕ) (octets : List ℕ) → All (λ o. o < 256) (o ∷ octets) → IsPlainWord (dashed_text (o ∷ octets))
 dashed_word o [] all = pair_word o (All-head IsOctet o [] all)

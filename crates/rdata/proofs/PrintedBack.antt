@@ -32,10 +32,12 @@ use Rattle.rdata.specs.Texts.{AreText, text_form}
 use Rattle.rdata.specs.TypeLists.{NameTypes, types_form}
 use Rattle.rdata.specs.Wire.{BeginsWithFields}
 use Rattle.rdata.specs.declared.rest.Rest.{Rest}
-use Rattle.rdata.specs.declared.rest.Rest.TheVariants.{Nothing, Strings, MaybeString, Hex, Base64, Types, SomeTypes, Text, QuotedText, Location as OfLocation, Prefixes, GatewayKey, Params}
+use Rattle.rdata.specs.declared.rest.Rest.TheVariants.{Nothing, Strings, MaybeString, Hex, Base64, Types, SomeTypes, Text, QuotedText, Location as OfLocation, Prefixes, GatewayKey, HostIdentity, Params, Nsap}
 use Rattle.rdata.specs.declared.shape.Shape.{Shape}
 use Rattle.rdata.proofs.LocationLemmas.{location_back}
+use Rattle.rdata.proofs.HostWire.{host_back}
 use Rattle.rdata.proofs.MaybeStringLaws.{maybe_string_back}
+use Rattle.rdata.proofs.NsapRestLaws.{nsap_back}
 use Rattle.rdata.proofs.ParamsRestLaws.{params_back}
 use Rattle.rdata.proofs.PlacesBack.{prefixes_back, gateway_key_back}
 use Rattle.rdata.proofs.PrintedStrings.{front_string, quoted_token}
@@ -145,6 +147,7 @@ module _ (origin : Option (List (List ℕ))) (known : IsOrigin origin) where
   rest_back MaybeString octets tokens is p = maybe_string_back octets tokens is p
   rest_back Hex octets tokens is p = (digits_back InHex octets tokens is.0 p, is.1)
   rest_back Base64 octets tokens is p = (digits_back InBase64 octets tokens is.0 p, is.1)
+  rest_back Nsap octets tokens is p = nsap_back octets tokens is p
   rest_back Types octets tokens is p = types_back octets tokens is p
   rest_back SomeTypes octets tokens is p = (types_back octets tokens is.0 p, is.1)
   rest_back Text octets tokens is p = text_back false octets tokens is p
@@ -152,6 +155,7 @@ module _ (origin : Option (List (List ℕ))) (known : IsOrigin origin) where
   rest_back OfLocation octets tokens is p = location_back octets tokens is p
   rest_back Prefixes octets tokens is p = prefixes_back octets tokens is p
   rest_back GatewayKey octets tokens is p = gateway_key_back origin known name_sized (digits_back InBase64) octets tokens is p
+  rest_back HostIdentity octets tokens is p = host_back origin known octets tokens is p
   rest_back Params octets tokens is p = params_back octets tokens is p
 
   -- tokens are those of fields, and of the tail after them

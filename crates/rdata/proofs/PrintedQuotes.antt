@@ -26,7 +26,8 @@ use Rattle.dns_symbol.proofs.PrintedForms.{printed_ascii, printed_bytes}
 use Rattle.rdata_svcb.specs.Params.{params_of}
 use Rattle.rdata_svcb.specs.ShownParams.{param_text}
 use Rattle.rdata_tails.specs.LocationWords.{location_words}
-use Rattle.rdata.specs.GatewayKeys.{plain_word}
+use Rattle.rdata.specs.GatewayKeys.{labels_size, plain_word}
+use Rattle.rdata.specs.HostIdentities.{server_form}
 use Rattle.rdata.specs.LocationRest.{location_at}
 use Rattle.rdata.specs.PrefixLists.{prefix_form, item_size}
 use Rattle.rdata.specs.TokenForms.{printed_each}
@@ -37,7 +38,7 @@ use Rattle.rdata.specs.Printing.{field_size, printed_field, printed_parts, print
 use Rattle.rdata.specs.RestKinds.{rest_form, strings_in_octets, AreShortStrings}
 use Rattle.rdata.specs.Wire.{BeginsWithFields}
 use Rattle.rdata.specs.declared.rest.Rest.{Rest}
-use Rattle.rdata.specs.declared.rest.Rest.TheVariants.{Nothing, Strings, MaybeString, Hex, Base64, Types, SomeTypes, Text, QuotedText, Location as OfLocation, Prefixes, GatewayKey, Params}
+use Rattle.rdata.specs.declared.rest.Rest.TheVariants.{Nothing, Strings, MaybeString, Hex, Base64, Types, SomeTypes, Text, QuotedText, Location as OfLocation, Prefixes, GatewayKey, HostIdentity, Params, Nsap}
 use Rattle.rdata.specs.declared.shape.Shape.{Shape}
 use Rattle.rdata.proofs.PrintedBack.{strings_again}
 use Rattle.rdata.proofs.PrintedStrings.{quoted_token}
@@ -121,6 +122,11 @@ prefixes_well zero octets = tt
 prefixes_well (suc count) [] = tt
 prefixes_well (suc count) (o ∷ os) = (plain_well _, prefixes_well count (drop (item_size (o ∷ os)) (o ∷ os)))
 
+servers_well : (count : ℕ) (octets : List ℕ) → AllByRecursion IsQuotedWell (printed_each (server_form None) count octets)
+servers_well zero octets = tt
+servers_well (suc count) [] = tt
+servers_well (suc count) (o ∷ os) = (plain_well _, servers_well count (drop (labels_size (length (o ∷ os)) (o ∷ os)) (o ∷ os)))
+
 rest_well : (r : Rest) (octets : List ℕ) → (rest_form None r).is_wire octets → AllByRecursion IsQuotedWell ((rest_form None r).printed octets)
 rest_well Nothing octets is = tt
 rest_well Strings octets is =
@@ -129,6 +135,7 @@ rest_well Strings octets is =
 rest_well MaybeString octets is = maybe_string_well octets is
 rest_well Hex octets is = digits_well InHex octets
 rest_well Base64 octets is = digits_well InBase64 octets
+rest_well Nsap octets is = (plain_well _, tt)
 rest_well Types octets is = types_well (types_of octets)
 rest_well SomeTypes octets is = types_well (types_of octets)
 rest_well Text octets is = ((λ quoted. quote_of octets is), tt)
@@ -136,6 +143,7 @@ rest_well QuotedText octets is = ((λ quoted. quote_of octets is), tt)
 rest_well OfLocation octets is = words_well (location_words (location_at octets))
 rest_well Prefixes octets is = prefixes_well (length octets) octets
 rest_well GatewayKey octets is = (plain_well _, (plain_well _, (plain_well _, digits_well InBase64 _)))
+rest_well HostIdentity octets is = (plain_well _, (plain_well _, (plain_well _, servers_well _ _)))
 rest_well Params octets is = params_well (params_of octets)
 
 parts_well : (fields : List Field) (r : Rest) (octets back : List ℕ) → BeginsWithFields fields octets back → (rest_form None r).is_wire back → AllByRecursion IsQuotedWell (printed_parts fields r octets)

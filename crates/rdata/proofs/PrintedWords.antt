@@ -1,5 +1,5 @@
 -- Each token that RDATA prints as is one of a zone file.
-use Rattle.std.proofs.Common.{ℕ, zero, suc, ◌≡◌, ◌⊎◌, ◌-◌, ◌*◌, ◌/◌, ◌%◌, ◌^◌, ◌<◌, Bool, true, false, true≢false, Some, None, List, [], ◌∷◌, ◌++◌, length, take, drop, map, decimal, refl, sym, ap, subst, ◌∙◌, inl, inr, arith, length-append}
+use Rattle.std.proofs.Common.{◌+◌, ℕ, zero, suc, ◌≡◌, ◌⊎◌, ◌-◌, ◌*◌, ◌/◌, ◌%◌, ◌^◌, ◌<◌, Bool, true, false, true≢false, Some, None, List, [], ◌∷◌, ◌++◌, length, take, drop, map, decimal, refl, sym, ap, subst, ◌∙◌, inl, inr, arith, length-append}
 use Rattle.std.proofs.Math.Seq.{take-append_seam, drop-append_seam}
 use Rattle.std.proofs.lemmas.Bool.{and_parts, ltb-true}
 use Rattle.std.proofs.lemmas.List.Elements.{All-head, All-tail}
@@ -19,7 +19,7 @@ use Rattle.rdata_fields.specs.declared.field.Field.{Field}
 use Rattle.rdata_fields.specs.declared.field.Field.TheVariants.{Number8, Number16, Number32, Interval, Ipv4, Ipv6, RecordType, SigType, Algorithm, CertificateType, SyncScheme, Eui48, Eui64, Time, Locator, String, PsdnAddress, Tag, Salt, Hash, Name}
 use Rattle.rdata_fields.proofs.FormLaws.{fields_are_forms}
 use Rattle.rdata_values.specs.Algorithms.{certificate_rows}
-use Rattle.dns_codec.specs.Base.{base32hex, encoded}
+use Rattle.dns_codec.specs.Base.{base32hex, base64, encoded}
 use Rattle.rdata_values.specs.Eui.{dashed_text}
 use Rattle.rdata_values.specs.Registry.{Row, code_text}
 use Rattle.rdata_values.specs.Salt.{salt_text}
@@ -46,6 +46,7 @@ use Rattle.dns_lexer.specs.Token.{IsToken, IsWord}
 use Rattle.rdata.specs.Data.{IsDataOf, IsTextData}
 use Rattle.rdata.specs.Digits.{printed_digits}
 use Rattle.rdata.specs.GatewayKeys.{plain_word, octet_form, gateway_type_form, gateway_form, gateway_key_form, key_form}
+use Rattle.rdata.specs.HostIdentities.{hit_form, public_key_form, server_form, host_identity_form, servers_form}
 use Rattle.rdata.specs.MaybeStrings.{printed_maybe_string}
 use Rattle.rdata.specs.PrefixLists.{prefix_form, prefixes_form}
 use Rattle.rdata.specs.PrintLaws.{IsQuotedWell, IsWordWell}
@@ -56,12 +57,14 @@ use Rattle.rdata.specs.TokenForms.{TokenForm, IsThen, printed_each, then_form}
 use Rattle.rdata.specs.TypeLists.{types_form}
 use Rattle.rdata.specs.Wire.{BeginsWithFields}
 use Rattle.rdata.specs.declared.rest.Rest.{Rest}
-use Rattle.rdata.specs.declared.rest.Rest.TheVariants.{Nothing as NoRest, Strings, MaybeString, Hex, Base64, Types, SomeTypes, Text, QuotedText, Location as OfLocation, Prefixes, GatewayKey, Params}
+use Rattle.rdata.specs.declared.rest.Rest.TheVariants.{Nothing as NoRest, Strings, MaybeString, Hex, Base64, Types, SomeTypes, Text, QuotedText, Location as OfLocation, Prefixes, GatewayKey, HostIdentity, Params, Nsap}
 use Rattle.rdata.specs.declared.shape.Shape.{Shape}
 use Rattle.rdata.proofs.GatewayLaws.{behind_algorithm, behind_type}
 use Rattle.rdata.proofs.LocationLemmas.{location_at_is}
 use Rattle.rdata.proofs.PlacesBack.{gateway_sized, item_sized, prefix_is, word_is}
-use Rattle.rdata.proofs.PlainWords.{ArePlain, IsPlainWord, is_plain_char, plain_is_word, plain_append, plain_before, word_front, word_before, numeral_word, decimal_word, digits_plain, pairs_plain, dashed_word, groups_word, ipv4_word, ipv6_word, encoded16_word, encoded32_word, encoded64_word, letters_plain, any_decimal_word}
+use Rattle.rdata.proofs.PlainWords.{ArePlain, IsPlainWord, is_plain_char, plain_is_word, plain_append, plain_before, word_front, word_before, numeral_word, decimal_word, digits_plain, pairs_plain, dashed_word, groups_word, ipv4_word, ipv6_word, encoded16_word, encoded32_word, encoded64_word, letters_plain, any_decimal_word, nsap_word}
+use Rattle.rdata.proofs.HostLaws.{after_hit, shown_hit, shown_algorithm}
+use Rattle.rdata.proofs.HostWire.{algorithm_shown, hit_shown, key_shown, key_sized, no_name}
 use Rattle.rdata.proofs.PrintedQuotes.{data_well}
 use Rattle.rdata.proofs.PrintedStrings.{quoted_token}
 use Rattle.rdata.proofs.Sizes.{field_sized, name_sized}
@@ -355,6 +358,40 @@ gateway_key_words octets is =
     type_words : (number : ℕ) (octets : List ℕ) → (behind_type None number).is_wire octets → AreWell ((behind_type None number).printed octets)
     type_words number octets is = then_words octet_form octet_word octet_sized (λ algorithm. behind_algorithm None number (slice_index algorithm 0)) (λ algorithm. gateway_words number (slice_index algorithm 0)) octets is
 
+-- ---- host identities
+
+hit_word : (octets : List ℕ) → hit_form.is_wire octets → IsWordWell (hit_form.printed octets)
+hit_word octets is = by octets is.0 is.1
+  where
+    by : (octets : List ℕ) → All (λ o. o < 256) octets → 0 < length octets → IsWordWell (hit_form.printed octets)
+    by [] values some = absurd (omega (arith, some))
+    by (o ∷ os) values some = a_word _ (salt_word (o ∷ os) values)
+
+public_key_word : (algorithm : ℕ) (hit octets : List ℕ) → (public_key_form algorithm hit).is_wire octets → IsWordWell ((public_key_form algorithm hit).printed octets)
+public_key_word algorithm hit octets is =
+    let shown : encoded base64 (drop (4 + slice_index octets 0) octets) ≡ encoded base64 is.0 = ap (λ o. encoded base64 (drop (4 + slice_index o 0) o)) is.2 ∙ ap (encoded base64) (key_shown algorithm hit is.0) in
+    a_word _ (subst IsPlainWord (sym shown) (encoded64_word is.0 is.1.1))
+
+after_hit_words : (algorithm : ℕ) (hit octets : List ℕ) → (after_hit None algorithm hit).is_wire octets → AreWell ((after_hit None algorithm hit).printed octets)
+after_hit_words algorithm hit octets is = then_words (public_key_form algorithm hit) (public_key_word algorithm hit) (key_sized algorithm hit) (λ key. servers_form None) (λ key back names. servers_words back names) octets is
+  where
+    servers_words : (octets : List ℕ) → (servers_form None).is_wire octets → AreWell ((servers_form None).printed octets)
+    servers_words octets is =
+        subst (λ o. AreWell (printed_each (server_form None) (length octets) o)) (sym is.2)
+        (each_words (server_form None) (λ octets name plain. name_is_word octets name) name_sized no_name is.0 (length octets) is.1)
+
+host_words : (octets : List ℕ) → (host_identity_form None).is_wire octets → AreWell ((host_identity_form None).printed octets)
+host_words octets is =
+    let algorithm : shown_algorithm octets ≡ is.0 = algorithm_shown is.0 octets is.1 is.2 in
+    let hit : shown_hit octets ≡ is.2.0 = hit_shown (slice_index is.0 0) is.2.0 octets is.2.1 is.2.2 in
+    let last = subst (λ h. AreWell ((after_hit None (slice_index is.0 0) h).printed octets)) (sym hit) (after_hit_words (slice_index is.0 0) is.2.0 octets is.2.2) in (
+      subst (λ o. IsWordWell (octet_form.printed o)) (sym algorithm) (octet_word is.0 is.1),
+      (
+        subst (λ h. IsWordWell (hit_form.printed h)) (sym hit) (hit_word is.2.0 is.2.1),
+        subst (λ a. AreWell ((after_hit None (slice_index a 0) (shown_hit octets)).printed octets)) (sym algorithm) last,
+      ),
+    )
+
 -- ---- all kinds of what goes to the end of an entry
 
 types_words : (types : List ℕ) → All (λ rtype. rtype < 65536) types → AreWell (map (λ rtype. record { is_quoted = false; text = portable_text rtype }) types)
@@ -382,6 +419,7 @@ rest_words Strings octets is = strings_words (strings_in_octets octets)
 rest_words MaybeString octets is = maybe_string_words octets
 rest_words Hex octets is = digits_words InHex octets
 rest_words Base64 octets is = digits_words InBase64 octets
+rest_words Nsap octets is = (a_word _ (nsap_word octets is.0), tt)
 rest_words Types octets is = bitmap_words octets is
 rest_words SomeTypes octets is = bitmap_words octets is.0
 rest_words Text octets is = (not_quoted (quoted_token octets) refl, tt)
@@ -389,6 +427,7 @@ rest_words QuotedText octets is = (not_quoted (quoted_token octets) refl, tt)
 rest_words OfLocation octets is = subst (λ l. AreWell (map (λ word. record { is_quoted = false; text = word }) (location_words l))) (sym (location_at_is octets is.0 is.1)) (location_words_well is.0 is.1.0)
 rest_words Prefixes octets is = prefixes_words octets is
 rest_words GatewayKey octets is = gateway_key_words octets is
+rest_words HostIdentity octets is = host_words octets is
 rest_words Params octets is = params_words (params_of octets) (params_are_words octets is.0 is.1)
 
 parts_words : (fields : List Field) (r : Rest) (octets back : List ℕ) → BeginsWithFields fields octets back → (rest_form None r).is_wire back → AreWell (printed_parts fields r octets)

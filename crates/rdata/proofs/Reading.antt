@@ -20,7 +20,7 @@ use Rattle.rdata.specs.RestKinds.{IsRestPart, rest_form}
 use Rattle.rdata.specs.Texts.{AreText}
 use Rattle.rdata.specs.TypeLists.{NameBitmap}
 use Rattle.rdata.specs.declared.rest.Rest.{Rest}
-use Rattle.rdata.specs.declared.rest.Rest.TheVariants.{Nothing, Strings, MaybeString, Hex, Base64, Types, SomeTypes, Text, QuotedText, Location as OfLocation, Prefixes, GatewayKey, Params}
+use Rattle.rdata.specs.declared.rest.Rest.TheVariants.{Nothing, Strings, MaybeString, Hex, Base64, Types, SomeTypes, Text, QuotedText, Location as OfLocation, Prefixes, GatewayKey, HostIdentity, Params, Nsap}
 use Rattle.rdata.specs.declared.shape.LengthRule.{LengthRule}
 use Rattle.rdata.specs.declared.shape.LengthRule.TheVariants.{Any, Digest, Hash}
 use Rattle.rdata.specs.declared.shape.Shape.{Shape}
@@ -29,9 +29,11 @@ use Rattle.rdata_svcb.proofs.ParamLaws.{all_params_once}
 use Rattle.rdata_tails.proofs.LocationLaws.{locations_are_read}
 use Rattle.rdata_tails.specs.Locations.{SpellsLocation}
 use Rattle.rdata.proofs.GatewayLaws.{gateway_key_once, gateway_key_exceeded}
+use Rattle.rdata.proofs.HostLaws.{host_once, host_exceeded}
 use Rattle.rdata.proofs.PrefixListLaws.{prefixes_once, prefixes_exceeded}
 use Rattle.rdata.proofs.Joinings.{joined_once, digits_exceeded}
 use Rattle.rdata.proofs.MaybeStringLaws.{maybe_string_once, maybe_string_exceeded}
+use Rattle.rdata.proofs.NsapRestLaws.{nsap_once, nsap_exceeded}
 use Rattle.rdata.proofs.Strings.{strings_exceeded}
 use Rattle.rdata.proofs.TextLaws.{text_exceeded}
 use Rattle.rdata.proofs.TokenRests.{whole_exceeded}
@@ -53,6 +55,7 @@ rest_once origin Strings tokens a b h k = all_once origin _ tokens a b h.0 k.0
 rest_once origin MaybeString tokens a b h k = maybe_string_once tokens a b h k
 rest_once origin Hex tokens a b h k = joined_once InHex tokens a b h.0 k.0
 rest_once origin Base64 tokens a b h k = joined_once InBase64 tokens a b h.0 k.0
+rest_once origin Nsap tokens a b h k = nsap_once tokens a b h k
 rest_once origin Types tokens a b h k = types_once tokens a b h k
 rest_once origin SomeTypes tokens a b h k = types_once tokens a b h.0 k.0
 rest_once origin Text tokens a b h k = text_once false tokens a b h k
@@ -60,6 +63,7 @@ rest_once origin QuotedText tokens a b h k = text_once true tokens a b h k
 rest_once origin OfLocation tokens a b h k = locations_are_read.once tokens a b h k
 rest_once origin Prefixes tokens a b h k = prefixes_once tokens a b h k
 rest_once origin GatewayKey tokens a b h k = gateway_key_once origin tokens a b h k
+rest_once origin HostIdentity tokens a b h k = host_once origin tokens a b h k
 rest_once origin Params tokens a b h k = all_params_once tokens a b h k
 
 -- what begins to exceed the room exceeds it
@@ -70,6 +74,7 @@ rest_exceeded origin Strings room tokens left old octets h k = strings_exceeded 
 rest_exceeded origin MaybeString room tokens left old octets h k = maybe_string_exceeded room tokens left old octets h k
 rest_exceeded origin Hex room tokens left old octets h k = digits_exceeded InHex room tokens left old octets h k.0
 rest_exceeded origin Base64 room tokens left old octets h k = digits_exceeded InBase64 room tokens left old octets h k.0
+rest_exceeded origin Nsap room tokens left old octets h k = nsap_exceeded room tokens left old octets h k
 rest_exceeded origin Types room tokens left old octets h k = whole_exceeded NameBitmap types_once room tokens left old octets h k
 rest_exceeded origin SomeTypes room tokens left old octets h k = whole_exceeded NameBitmap types_once room tokens left old octets h k.0
 rest_exceeded origin Text room tokens left old octets h k = text_exceeded false room tokens left old octets h k
@@ -77,6 +82,7 @@ rest_exceeded origin QuotedText room tokens left old octets h k = text_exceeded 
 rest_exceeded origin OfLocation room tokens left old octets h k = whole_exceeded SpellsLocation locations_are_read.once room tokens left old octets h k
 rest_exceeded origin Prefixes room tokens left old octets h k = prefixes_exceeded room tokens left old octets h k
 rest_exceeded origin GatewayKey room tokens left old octets h k = gateway_key_exceeded origin room left tokens old octets h k
+rest_exceeded origin HostIdentity room tokens left old octets h k = host_exceeded origin room left tokens old octets h k
 rest_exceeded origin Params room tokens left old octets h k = params_exceeded room tokens left old octets h k
 
 module _ (origin : Option (List (List ℕ))) (room : Room) (shape : Shape) (end : ℕ) (tokens : List TokenSeen) (old : List ℕ) where

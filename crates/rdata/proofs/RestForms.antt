@@ -14,10 +14,12 @@ use Rattle.rdata.specs.RestLaws.{HoldOctets, AreRestForms}
 use Rattle.rdata.specs.Texts.{AreText}
 use Rattle.rdata.specs.TypeLists.{NameTypes, types_form}
 use Rattle.rdata.specs.declared.rest.Rest.{Rest}
-use Rattle.rdata.specs.declared.rest.Rest.TheVariants.{Nothing, Strings, MaybeString, Hex, Base64, Types, SomeTypes, Text, QuotedText, Location as OfLocation, Prefixes, GatewayKey, Params}
+use Rattle.rdata.specs.declared.rest.Rest.TheVariants.{Nothing, Strings, MaybeString, Hex, Base64, Types, SomeTypes, Text, QuotedText, Location as OfLocation, Prefixes, GatewayKey, HostIdentity, Params, Nsap}
 use Rattle.rdata_svcb.proofs.ParamLaws.{params_values}
 use Rattle.rdata_tails.proofs.LocationLaws.{locations_are_read}
+use Rattle.rdata.proofs.HostLaws.{host_is_wire, same_host_wire}
 use Rattle.rdata.proofs.MaybeStringLaws.{maybe_string_is_wire}
+use Rattle.rdata.proofs.NsapRestLaws.{nsap_is_wire}
 use Rattle.rdata.proofs.PlacesWire.{prefixes_are_wire, gateway_key_is_wire, same_key_wire}
 use Rattle.rdata.proofs.Reading.{rest_once, rest_exceeded}
 use Rattle.rdata.proofs.WireStrings.{no_strings, string_before}
@@ -49,6 +51,7 @@ rest_is_wire origin is Strings tokens octets h k = (strings_are_wire origin toke
 rest_is_wire origin is MaybeString tokens octets h k = maybe_string_is_wire tokens octets h k
 rest_is_wire origin is Hex tokens octets h k = (k.0.1.bytes, k.1)
 rest_is_wire origin is Base64 tokens octets h k = (k.0.1.bytes, k.1)
+rest_is_wire origin is Nsap tokens octets h k = nsap_is_wire tokens octets k
 rest_is_wire origin is Types tokens octets h k = types_are_wire tokens octets k
 rest_is_wire origin is SomeTypes tokens octets h k = (types_are_wire tokens octets k.0, k.1)
 rest_is_wire origin is Text tokens octets h k = text_is_wire false tokens octets h k
@@ -56,6 +59,7 @@ rest_is_wire origin is QuotedText tokens octets h k = text_is_wire true tokens o
 rest_is_wire origin is OfLocation tokens octets h k = locations_are_read.valid tokens octets k
 rest_is_wire origin is Prefixes tokens octets h k = prefixes_are_wire tokens octets h k
 rest_is_wire origin is GatewayKey tokens octets h k = gateway_key_is_wire origin is tokens octets h k
+rest_is_wire origin is HostIdentity tokens octets h k = host_is_wire origin is tokens octets h k
 rest_is_wire origin is Params tokens octets h k = (params_values tokens octets h k, k.right)
 
 pub rests_are_forms : AreRestForms
@@ -68,6 +72,7 @@ wire_of_rest origin Strings octets h = h
 wire_of_rest origin MaybeString octets h = h
 wire_of_rest origin Hex octets h = h
 wire_of_rest origin Base64 octets h = h
+wire_of_rest origin Nsap octets h = h
 wire_of_rest origin Types octets h = h
 wire_of_rest origin SomeTypes octets h = h
 wire_of_rest origin Text octets h = h
@@ -75,4 +80,5 @@ wire_of_rest origin QuotedText octets h = h
 wire_of_rest origin OfLocation octets h = h
 wire_of_rest origin Prefixes octets h = h
 wire_of_rest origin GatewayKey octets h = same_key_wire origin octets h
+wire_of_rest origin HostIdentity octets h = same_host_wire origin octets h
 wire_of_rest origin Params octets h = h

@@ -11,7 +11,7 @@ use Rattle.rdata.specs.Printing.{after_fields, field_size, printed_data, printed
 use Rattle.rdata.specs.RestKinds.{IsRestOf, IsTextless, has_no_text, rest_form}
 use Rattle.rdata.specs.Wire.{BeginsWithFields}
 use Rattle.rdata.specs.declared.rest.Rest.{Rest}
-use Rattle.rdata.specs.declared.rest.Rest.TheVariants.{Nothing, Strings, MaybeString, Hex, Base64, Types, SomeTypes, Text, QuotedText, Location as OfLocation, Prefixes, GatewayKey, Params}
+use Rattle.rdata.specs.declared.rest.Rest.TheVariants.{Nothing, Strings, MaybeString, Hex, Base64, Types, SomeTypes, Text, QuotedText, Location as OfLocation, Prefixes, GatewayKey, HostIdentity, Params, Nsap}
 use Rattle.rdata.specs.declared.shape.Shape.{Shape}
 use Rattle.rdata.proofs.ItemLaws.{AreItems, prefixes_are_items, prefixes_known}
 use Rattle.rdata.proofs.Sizes.{field_sized}
@@ -37,11 +37,13 @@ rest_has_text Strings octets is = refl
 rest_has_text MaybeString octets is = refl
 rest_has_text Hex octets is = refl
 rest_has_text Base64 octets is = refl
+rest_has_text Nsap octets is = refl
 rest_has_text Types octets is = refl
 rest_has_text SomeTypes octets is = refl
 rest_has_text Text octets is = refl
 rest_has_text QuotedText octets is = refl
 rest_has_text GatewayKey octets is = refl
+rest_has_text HostIdentity octets is = refl
 rest_has_text Params octets is = refl
 
 rest_has_none : (r : Rest) (octets : List ℕ) → IsTextless r octets → has_no_text r octets ≡ true
@@ -52,11 +54,13 @@ rest_has_none Strings octets is = absurd is
 rest_has_none MaybeString octets is = absurd is
 rest_has_none Hex octets is = absurd is
 rest_has_none Base64 octets is = absurd is
+rest_has_none Nsap octets is = absurd is
 rest_has_none Types octets is = absurd is
 rest_has_none SomeTypes octets is = absurd is
 rest_has_none Text octets is = absurd is
 rest_has_none QuotedText octets is = absurd is
 rest_has_none GatewayKey octets is = absurd is
+rest_has_none HostIdentity octets is = absurd is
 rest_has_none Params octets is = absurd is
 
 -- ---- data

@@ -96,7 +96,7 @@ module _ (f : TokenForm) where
     refused_each room tokens ts t old middle e h (inl short) = inl (short.0, (h.before, h.octets, h.whole, h.spelled, subst (ExceedsRoom room (f.begins t)) h.gained short.1))
     refused_each room tokens ts t old middle e h (inr bad) =
         inr (
-          (h.before, h.whole, ((h.octets, h.spelled), bad.0)),
+          (h.before, h.whole, ((h.octets, h.spelled), bad.0, bad.1)),
           λ octets sp. (
               let on = goes_on h.before ts t h.octets octets h.spelled (subst (λ z. SpellOctets f z octets) h.whole sp) in
               bad.1 on.0 on.3
@@ -178,7 +178,7 @@ module _ (f : TokenForm) (behind : List ℕ → RestForm) where
         by : (tokens : List TokenSeen) → left ≡ tokens → RefusesTokenAs room f.begins f.spells f.reason tokens old r.kind → RefusesAs room (then_form f behind) tokens old left r.kind
         by [] none why = inr ((none, why), λ octets sp. (let is : [] ≡ sp.first ∷ sp.last = sp.tokens_are in cc is))
         by (t ∷ ts) same (inl short) = inl (short.0, inl (same, short.1))
-        by (t ∷ ts) same (inr bad) = inr (inl (same, bad.0), λ octets sp. bad.1 sp.front (first_is t ts octets sp))
+        by (t ∷ ts) same (inr bad) = inr (inl (same, bad.0, bad.1), λ octets sp. bad.1 sp.front (first_is t ts octets sp))
 
     module _ (once : SpelledOnce f.spells) (t : TokenSeen) (ts : List TokenSeen) (front middle : List ℕ) (is : tokens ≡ t ∷ ts) (spelled : f.spells t front) (gained : middle ≡ old ++ front) where
       -- what tokens spell, after the first

@@ -67,8 +67,8 @@ abbrev pub RefusesData : Option (List (List ℕ)) → Room → RecordType → �
 RefusesData origin room rtype end tokens old r left new =
     ((r ≡ error_at (next_place tokens end) NoDataType) × (left ≡ tokens) × (new ≡ old) × (IsDataType rtype → ⊥))
     ⊎ (IsDataType rtype × BeginsGeneric tokens × RefusesGeneric (shape_of_code rtype) room end tokens old r left new)
-    ⊎ ((r ≡ error_at (next_place tokens end) NoTextForm) × (left ≡ tokens) × (new ≡ old) × (BeginsGeneric tokens → ⊥) × (shape_of_code rtype ≡ None))
-    ⊎ ((BeginsGeneric tokens → ⊥) × ((shape : Shape) × HasShape (shape_of_code rtype) shape × ReadsData origin room shape end tokens old (Err r) left new))
+    ⊎ ((r ≡ error_at (next_place tokens end) NoTextForm) × (left ≡ tokens) × (new ≡ old) × (BeginsGeneric tokens → ⊥) × (shape_of_code rtype ≡ None) × IsDataType rtype)
+    ⊎ ((BeginsGeneric tokens → ⊥) × ((shape : Shape) × HasShape (shape_of_code rtype) shape × ReadsData origin room shape end tokens old (Err r) left new) × IsDataType rtype)
 
 -- all tokens are parsed, and the target gained the RDATA that they spell; or they are rejected
 abbrev pub ParsesData : Option (List (List ℕ)) → Room → RecordType → TokenParser (Unit {0})

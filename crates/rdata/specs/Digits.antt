@@ -40,7 +40,7 @@ IsDigitsFault kind text e =
 -- Why digits are rejected after words with which digits of octets begin: they end within a group; or
 -- the next token is a quoted string; or the digits up to its end are wrong.
 abbrev pub JoinedReason : DigitsKind → List TokenSeen → List TokenSeen → ErrorKind → Type 0
-JoinedReason kind before [] e = e ≡ unfinished kind
+JoinedReason kind before [] e = (e ≡ unfinished kind) × ((octets : List ℕ) → SpellsDigits (base_of kind) (joined_words before) octets → ⊥)
 JoinedReason kind before (t ∷ ts) e = ((e ≡ Quoted) × (t.is_quoted ≡ true)) ⊎ ((t.is_quoted ≡ false) × IsDigitsFault kind (joined_words (before ++ t ∷ [])) e)
 
 -- octets print as one word, or as no word if there are none

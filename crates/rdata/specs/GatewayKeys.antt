@@ -34,6 +34,11 @@ octet_form = record {
   printed = λ octets. plain_word ((field_form None OfNumber8).printed octets);
 }
 
+-- the number of 8 bits that a token names, or why it does not name one
+abbrev pub ReadsOctet : TokenSeen → Result ℕ ErrorKind → Type 0
+ReadsOctet t (Ok number) = octet_form.spells t (number ∷ [])
+ReadsOctet t (Err e) = octet_form.reason t e × ((octets : List ℕ) → octet_form.spells t octets → ⊥)
+
 -- why a token is not the type of a gateway: it is not a number; or the number is too great
 abbrev pub GatewayTypeReason : TokenSeen → ErrorKind → Type 0
 GatewayTypeReason t e = octet_form.reason t e ⊎ ((e ≡ UnknownGateway) × ((octets : List ℕ) × octet_form.spells t octets × (3 < slice_index octets 0)))

@@ -6,11 +6,16 @@ pub mod Generic
 pub mod Limits
 pub mod LocationRest
 pub mod MaybeStrings
+pub mod NsapRest
+pub mod OneToken
+pub mod OneError
 pub mod Pieces
 pub mod PrintLaws
 pub mod PrintRows
 pub mod Printing
 pub mod GatewayKeys
+pub mod HeldForms
+pub mod HostIdentities
 pub mod ParamsRest
 pub mod PlaceRows
 pub mod PrefixLists

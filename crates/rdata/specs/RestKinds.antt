@@ -13,7 +13,9 @@ use Rattle.rdata_fields.specs.declared.field.Field.TheVariants.{String as OfStri
 use Rattle.dns_lexer.specs.EntryTokens.{TokenSeen}
 use Rattle.rdata.specs.Digits.{digits_form}
 use Rattle.rdata.specs.GatewayKeys.{IsGatewayPart, gateway_key_form}
+use Rattle.rdata.specs.HostIdentities.{IsHostPart, host_identity_form}
 use Rattle.rdata.specs.MaybeStrings.{maybe_string_form}
+use Rattle.rdata.specs.NsapRest.{nsap_form}
 use Rattle.rdata.specs.ParamsRest.{params_form}
 use Rattle.rdata.specs.PrefixLists.{IsAnyItem, has_other_family, prefixes_form}
 use Rattle.rdata.specs.Rests.{RestForm, AfterSomeTokens, ExceedsAfter, ParsesInParts, some_form}
@@ -22,7 +24,7 @@ use Rattle.rdata.specs.TokenForms.{AreParts}
 use Rattle.rdata.specs.Texts.{nothing_form, text_form}
 use Rattle.rdata.specs.TypeLists.{types_form}
 use Rattle.rdata.specs.declared.rest.Rest.{Rest}
-use Rattle.rdata.specs.declared.rest.Rest.TheVariants.{Nothing, Strings, MaybeString, Hex, Base64, Types, SomeTypes, Text, QuotedText, Location as OfLocation, Prefixes, GatewayKey, Params}
+use Rattle.rdata.specs.declared.rest.Rest.TheVariants.{Nothing, Strings, MaybeString, Hex, Base64, Types, SomeTypes, Text, QuotedText, Location as OfLocation, Prefixes, GatewayKey, HostIdentity, Params, Nsap}
 
 -- after character strings, why the next token is not one
 abbrev pub StringTokensReason : Option (List (List ℕ)) → List TokenSeen → List TokenSeen → ErrorKind → Type 0
@@ -66,6 +68,7 @@ rest_form origin Strings = some_form (strings_form origin)
 rest_form origin MaybeString = maybe_string_form
 rest_form origin Hex = some_form (digits_form InHex)
 rest_form origin Base64 = some_form (digits_form InBase64)
+rest_form origin Nsap = nsap_form
 rest_form origin Types = types_form
 rest_form origin SomeTypes = some_form types_form
 rest_form origin Text = text_form false
@@ -73,15 +76,17 @@ rest_form origin QuotedText = text_form true
 rest_form origin OfLocation = location_form
 rest_form origin Prefixes = prefixes_form
 rest_form origin GatewayKey = gateway_key_form origin
+rest_form origin HostIdentity = host_identity_form origin
 rest_form origin Params = params_form
 
--- the part of a rejected token: a gateway and a key have four, and each other kind one
+-- the part of a rejected token: a gateway and a key, and a host identity, have four, and each other kind one
 abbrev pub IsRestPart : Option (List (List ℕ)) → Rest → List TokenSeen → List TokenSeen → ℕ → Type 0
 IsRestPart origin Nothing tokens left part = part ≡ 0
 IsRestPart origin Strings tokens left part = part ≡ 0
 IsRestPart origin MaybeString tokens left part = part ≡ 0
 IsRestPart origin Hex tokens left part = part ≡ 0
 IsRestPart origin Base64 tokens left part = part ≡ 0
+IsRestPart origin Nsap tokens left part = part ≡ 0
 IsRestPart origin Types tokens left part = part ≡ 0
 IsRestPart origin SomeTypes tokens left part = part ≡ 0
 IsRestPart origin Text tokens left part = part ≡ 0
@@ -89,6 +94,7 @@ IsRestPart origin QuotedText tokens left part = part ≡ 0
 IsRestPart origin OfLocation tokens left part = part ≡ 0
 IsRestPart origin Prefixes tokens left part = part ≡ 0
 IsRestPart origin GatewayKey tokens left part = IsGatewayPart origin tokens left part
+IsRestPart origin HostIdentity tokens left part = IsHostPart origin tokens left part
 IsRestPart origin Params tokens left part = part ≡ 0
 
 -- all tokens are parsed as the parts of a kind, which follow other fields of the RDATA; or one is rejected, and the error has its part

@@ -56,10 +56,10 @@ abbrev pub SpellOctets : TokenForm → List TokenSeen → List ℕ → Type 0
 SpellOctets f [] octets = octets ≡ []
 SpellOctets f (t ∷ ts) octets = (front : List ℕ) × (back : List ℕ) × (octets ≡ front ++ back) × f.spells t front × SpellOctets f ts back
 
--- tokens spell octets, and the next after them is rejected
+-- tokens spell octets, and the next after them spells none, for this reason
 abbrev pub ReasonAfter : TokenForm → List TokenSeen → List TokenSeen → ErrorKind → Type 0
 ReasonAfter f before [] e = ⊥
-ReasonAfter f before (t ∷ ts) e = ((octets : List ℕ) × SpellOctets f before octets) × f.reason t e
+ReasonAfter f before (t ∷ ts) e = ((octets : List ℕ) × SpellOctets f before octets) × f.reason t e × ((octets : List ℕ) → f.spells t octets → ⊥)
 
 -- octets of a form, one after another to the end
 abbrev pub AreParts : (List ℕ → Type 0) → List ℕ → Type 0
@@ -97,10 +97,11 @@ abbrev pub ExceedsThen : TokenForm → (List ℕ → RestForm) → Room → List
 ExceedsThen f behind room [] left old = ⊥
 ExceedsThen f behind room (t ∷ ts) left old = ((left ≡ t ∷ ts) × ExceedsRoom room (f.begins t) old) ⊎ ((front : List ℕ) × f.spells t front × (behind front).exceeds room ts left (old ++ front))
 
--- there is no token; or the first is rejected; or it spells octets, and what follows it is rejected
+-- there is no token; or the first spells no octets, for this reason; or it spells octets, and what follows it is rejected
 abbrev pub ThenReason : TokenForm → (List ℕ → RestForm) → List TokenSeen → List TokenSeen → ErrorKind → Type 0
 ThenReason f behind [] left e = (left ≡ []) × (e ≡ EndOfEntry)
-ThenReason f behind (t ∷ ts) left e = ((left ≡ t ∷ ts) × f.reason t e) ⊎ ((front : List ℕ) × f.spells t front × (behind front).reason ts left e)
+ThenReason f behind (t ∷ ts) left e =
+    ((left ≡ t ∷ ts) × f.reason t e × ((octets : List ℕ) → f.spells t octets → ⊥)) ⊎ ((front : List ℕ) × f.spells t front × (behind front).reason ts left e)
 
 pub record IsThen (f : TokenForm) (behind : List ℕ → RestForm) (octets : List ℕ) : Type 0 where
   pub front : List ℕ

@@ -1,12 +1,12 @@
 -- The types whose RDATA has a text form.
-use Rattle.std.specs.Prelude.{ℕ, ◌≡◌, ◌==◌, find, map, Option, option_map, List, [], ◌∷◌, codes}
+use Rattle.std.specs.Prelude.{ℕ, ◌≡◌, ◌==◌, find, map, Option, option_map, List, [], ◌∷◌, codes, slice_get}
 use Rattle.rdata_tokens.specs.declared.digests.Digests.TheVariants.{Ds, Sshfp, Zonemd}
 use Rattle.rdata_fields.specs.declared.field.Field.{Field}
 use Rattle.rdata_fields.specs.declared.field.Field.TheVariants.{Number8, Number16, Number32, Interval, Ipv4, Ipv6, RecordType as OfType, SigType, Algorithm, CertificateType, SyncScheme, Eui48, Eui64, Time, Locator, String, PsdnAddress, Tag, Salt, Hash, Name}
 use Rattle.rdata_values.specs.Rtype as Rtype
 use Rattle.rdata_values.specs.declared.types.RecordType.{RecordType}
 use Rattle.rdata.specs.declared.rest.Rest.{Rest}
-use Rattle.rdata.specs.declared.rest.Rest.TheVariants.{Base64, GatewayKey, Hex, Location as OfLocation, MaybeString, Nothing, Params, Prefixes, QuotedText, SomeTypes, Strings, Text, Types}
+use Rattle.rdata.specs.declared.rest.Rest.TheVariants.{Base64, GatewayKey, Hex, HostIdentity, Location as OfLocation, MaybeString, Nothing, Params, Prefixes, QuotedText, SomeTypes, Strings, Text, Types, Nsap}
 use Rattle.rdata.specs.declared.shape.LengthRule.{LengthRule}
 use Rattle.rdata.specs.declared.shape.LengthRule.TheVariants.{Any, Digest, Hash as HashLength}
 use Rattle.rdata.specs.declared.types.TypeRow.{TypeRow}
@@ -36,6 +36,10 @@ row_shapes = map row_shape
 abbrev pub FindsShape : List TypeShape → RecordType → Option TypeRow → Type 0
 FindsShape shapes rtype r = option_map row_shape r ≡ find (λ (s : TypeShape). s.rtype == rtype) shapes
 
+-- the first row of the type is at this place
+abbrev pub IsRowPlace : List TypeShape → RecordType → ℕ → Type 0
+IsRowPlace shapes rtype place = find (λ (s : TypeShape). s.rtype == rtype) shapes ≡ slice_get shapes place
+
 unfoldable pub type_shapes : List TypeShape
 type_shapes =
     type_shape Rtype.a (Ipv4 ∷ []) Nothing Any (codes "address" ∷ []) ∷
@@ -56,6 +60,7 @@ type_shapes =
     type_shape Rtype.x25 (PsdnAddress ∷ []) Nothing Any (codes "address" ∷ []) ∷
     type_shape Rtype.isdn (String ∷ []) MaybeString Any (codes "address" ∷ codes "subaddress" ∷ []) ∷
     type_shape Rtype.rt (Number16 ∷ Name ∷ []) Nothing Any (codes "preference" ∷ codes "host" ∷ []) ∷
+    type_shape Rtype.nsap [] Nsap Any (codes "address" ∷ []) ∷
     type_shape Rtype.nsap_ptr (Name ∷ []) Nothing Any (codes "target" ∷ []) ∷
     type_shape Rtype.sig (SigType ∷ Algorithm ∷ Number8 ∷ Number32 ∷ Time ∷ Time ∷ Number16 ∷ Name ∷ []) Base64 Any (codes "type covered" ∷ codes "algorithm" ∷ codes "labels" ∷ codes "original TTL" ∷ codes "expiration" ∷ codes "inception" ∷ codes "key tag" ∷ codes "signer" ∷ codes "signature" ∷ []) ∷
     type_shape Rtype.key (Number16 ∷ Number8 ∷ Algorithm ∷ []) Base64 Any (codes "flags" ∷ codes "protocol" ∷ codes "algorithm" ∷ codes "key" ∷ []) ∷
@@ -86,6 +91,7 @@ type_shapes =
     type_shape Rtype.nsec3param (Number8 ∷ Number8 ∷ Number16 ∷ Salt ∷ []) Nothing Any (codes "hash algorithm" ∷ codes "flags" ∷ codes "iterations" ∷ codes "salt" ∷ []) ∷
     type_shape Rtype.tlsa (Number8 ∷ Number8 ∷ Number8 ∷ []) Hex Any (codes "usage" ∷ codes "selector" ∷ codes "matching type" ∷ codes "data" ∷ []) ∷
     type_shape Rtype.smimea (Number8 ∷ Number8 ∷ Number8 ∷ []) Hex Any (codes "usage" ∷ codes "selector" ∷ codes "matching type" ∷ codes "data" ∷ []) ∷
+    type_shape Rtype.hip [] HostIdentity Any (codes "algorithm" ∷ codes "HIT" ∷ codes "public key" ∷ codes "rendezvous server" ∷ []) ∷
     type_shape Rtype.ninfo [] Strings Any (codes "text" ∷ []) ∷
     type_shape Rtype.rkey (Number16 ∷ Number8 ∷ Algorithm ∷ []) Base64 Any (codes "flags" ∷ codes "protocol" ∷ codes "algorithm" ∷ codes "key" ∷ []) ∷
     type_shape Rtype.talink (Name ∷ Name ∷ []) Nothing Any (codes "previous" ∷ codes "next" ∷ []) ∷

@@ -9,8 +9,10 @@ ghost use Rattle.rdata.specs.TypeLists.{types_form};
 
 use crate::digits::parse_digits;
 use crate::gateways::parse_gateway_parts;
+use crate::host_identities::parse_host_parts;
 use crate::locations::parse_loc;
 use crate::maybe_strings::parse_maybe_string;
+use crate::nsap::parse_nsap;
 use crate::params::parse_service_params;
 use crate::prefixes::parse_prefixes;
 use crate::texts::{expect_no_token, parse_text};
@@ -32,6 +34,8 @@ pub enum Rest {
     MaybeString,
     /// One or more octets in hexadecimal.
     Hex,
+    /// `0x`, and one or more octets in hexadecimal.
+    Nsap,
     /// One or more octets in base 64.
     Base64,
     /// Any number of record types.
@@ -49,6 +53,8 @@ pub enum Rest {
     /// The type of a gateway, an algorithm, the gateway, and a key in base 64, which may be omitted
     /// if the algorithm is 0.
     GatewayKey,
+    /// An algorithm, a host identity tag, a public key, and any number of rendezvous servers.
+    HostIdentity,
     /// Any number of service parameters.
     Params,
 }
@@ -152,6 +158,7 @@ pub(crate) fn parse_parts<S: TokenSource, Octets: AsOctets, B: OctetsBuilder + A
 {
     match rest {
         Rest::GatewayKey => parse_gateway_parts(before, origin, source, target),
+        Rest::HostIdentity => parse_host_parts(before, origin, source, target),
         Rest::Nothing => in_field_after(before, expect_no_token(source, target)),
         Rest::Strings => in_field_after(before, parse_some_strings(origin, source, target)),
         Rest::MaybeString => in_field_after(before, parse_maybe_string(origin, source, target)),
@@ -160,6 +167,7 @@ pub(crate) fn parse_parts<S: TokenSource, Octets: AsOctets, B: OctetsBuilder + A
             before,
             parse_some_digits(DigitsKind::Base64, source, target),
         ),
+        Rest::Nsap => in_field_after(before, parse_nsap(source, target)),
         Rest::Types => in_field_after(before, parse_types(source, target)),
         Rest::SomeTypes => in_field_after(before, parse_some_types(source, target)),
         Rest::Text => in_field_after(before, parse_text(false, source, target)),

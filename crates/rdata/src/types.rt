@@ -1,7 +1,7 @@
 //! The record types whose RDATA has a presentation format of its own.
-ghost use Rattle.std.specs.Prelude.{◌≡◌, option_copied};
+ghost use Rattle.std.specs.Prelude.{◌≡◌, IfSome, option_copied, option_map, slice_get};
 ghost use Rattle.rdata.specs.ByType.{name_of_field, shape_of_code};
-ghost use Rattle.rdata.specs.Types.{row_shapes, FindsShape, type_shapes};
+ghost use Rattle.rdata.specs.Types.{row_shape, row_shapes, FindsShape, IsRowPlace, type_shapes};
 
 use crate::rest::Rest;
 use crate::shape::{LengthRule, Shape};
@@ -21,7 +21,7 @@ pub struct TypeRow(
 );
 
 /// The types, by code.
-pub static TYPES: [TypeRow; 71] = [
+pub static TYPES: [TypeRow; 73] = [
     // RFC 1035 section 3.4.1.
     TypeRow(
         RecordType::A.0,
@@ -173,6 +173,14 @@ pub static TYPES: [TypeRow; 71] = [
         Rest::Nothing,
         LengthRule::Any,
         &["preference", "host"],
+    ),
+    // RFC 1706 section 5.
+    TypeRow(
+        RecordType::NSAP.0,
+        &[],
+        Rest::Nsap,
+        LengthRule::Any,
+        &["address"],
     ),
     // RFC 1348.
     TypeRow(
@@ -466,6 +474,14 @@ pub static TYPES: [TypeRow; 71] = [
         LengthRule::Any,
         &["usage", "selector", "matching type", "data"],
     ),
+    // RFC 8005 section 5.
+    TypeRow(
+        RecordType::HIP.0,
+        &[],
+        Rest::HostIdentity,
+        LengthRule::Any,
+        &["algorithm", "HIT", "public key", "rendezvous server"],
+    ),
     // Draft-reid-dnsext-zs.
     TypeRow(
         RecordType::NINFO.0,
@@ -716,10 +732,45 @@ fn find_row(table: &'static [TypeRow], rtype: RecordType) -> Option<&'static Typ
     None
 }
 
+/// Returns the index in [`TYPES`] of a type that most records have. Returns `None` for any other type,
+/// even if it has a row. A new row moves those after it: then the contract is not met.
+#[inline(always)]
+fn usual_place(rtype: RecordType) -> Option<usize>
+    ensures { IfSome result (IsRowPlace type_shapes rtype) }
+{
+    match rtype.0 {
+        1 => Some(0),
+        2 => Some(1),
+        5 => Some(2),
+        6 => Some(3),
+        12 => Some(7),
+        15 => Some(10),
+        16 => Some(11),
+        28 => Some(23),
+        33 => Some(27),
+        43 => Some(34),
+        46 => Some(37),
+        47 => Some(38),
+        48 => Some(39),
+        50 => Some(41),
+        _ => None,
+    }
+}
+
+/// Returns the row at a place of a table.
+fn row_at(table: &'static [TypeRow], place: usize) -> Option<&'static TypeRow>
+    ensures { option_map row_shape (option_copied result) ≡ slice_get (row_shapes table.now) place }
+{
+    table.get(place)
+}
+
 /// Returns the row of a type, if its RDATA has a presentation format of its own.
 pub fn type_row(rtype: RecordType) -> Option<&'static TypeRow>
     ensures { FindsShape type_shapes rtype (option_copied result) }
 {
+    if let Some(place) = usual_place(rtype) {
+        return row_at(&TYPES, place);
+    }
     find_row(&TYPES, rtype)
 }
 

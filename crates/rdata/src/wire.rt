@@ -8,6 +8,7 @@ ghost use Rattle.rdata.specs.TypeLists.{types_form};
 ghost use Rattle.rdata.specs.Wire.{BeginsWithFields};
 
 use crate::gateways::is_gateway_key;
+use crate::host_identities::is_host_identity;
 use crate::locations::is_other_version;
 use crate::maybe_strings::is_maybe_string;
 use crate::params::are_params;
@@ -76,6 +77,7 @@ pub(crate) fn is_rest(rest: Rest, octets: &[u8]) -> bool
         Rest::MaybeString => is_maybe_string(octets),
         Rest::Hex => !octets.is_empty(),
         Rest::Base64 => !octets.is_empty(),
+        Rest::Nsap => !octets.is_empty(),
         Rest::Types => are_types(octets),
         Rest::SomeTypes => are_types(octets) && !octets.is_empty(),
         Rest::Text => true,
@@ -83,6 +85,7 @@ pub(crate) fn is_rest(rest: Rest, octets: &[u8]) -> bool
         Rest::Location => is_location(octets),
         Rest::Prefixes => are_prefixes(octets),
         Rest::GatewayKey => is_gateway_key(octets),
+        Rest::HostIdentity => is_host_identity(octets),
         Rest::Params => are_params(octets),
     }
 }

@@ -1,4 +1,5 @@
 pub mod Addresses
+pub mod FieldErrors
 pub mod Fields
 pub mod Forms
 pub mod RecordErrors

@@ -7,6 +7,8 @@ pub mod LocationLaws
 pub mod LocationLemmas
 pub mod LocationOnce
 pub mod LocationPlaceLemmas
+pub mod LocationReasons
 pub mod MarkLemmas
+pub mod NsapLaws
 pub mod PrefixLaws
 pub mod PrefixLemmas

@@ -17,7 +17,7 @@ use Rattle.rdata_tails.proofs.LocationLemmas.{same_token}
 abbrev Same : ℕ → ℕ → List TokenSeen → List TokenSeen → Type 0
 Same n m rest other = (n ≡ m) × (rest ≡ other)
 
-one_next : (Spells : List ℕ → ℕ → Type 0) → ((text : List ℕ) (n m : ℕ) → Spells text n → Spells text m → n ≡ m) → (tokens : List TokenSeen) (n m : ℕ) (rest other : List TokenSeen)
+pub one_next : (Spells : List ℕ → ℕ → Type 0) → ((text : List ℕ) (n m : ℕ) → Spells text n → Spells text m → n ≡ m) → (tokens : List TokenSeen) (n m : ℕ) (rest other : List TokenSeen)
     → BeginsWithWord Spells tokens n rest → BeginsWithWord Spells tokens m other → Same n m rest other
 one_next Spells once tokens n m rest other h k =
     let same = same_token h.0 k.0 tokens rest other h.1 k.1 in

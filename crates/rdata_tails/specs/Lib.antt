@@ -5,6 +5,7 @@ pub mod LocationParsing
 pub mod LocationWords
 pub mod Locations
 pub mod Marks
+pub mod Nsap
 pub mod Prefixes
 pub mod Refusals
 pub mod Rows

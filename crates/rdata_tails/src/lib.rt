@@ -13,9 +13,11 @@ pub mod location;
 pub mod location_text;
 pub mod location_wire;
 mod marks;
+pub mod nsap;
 
 pub use apl::{Prefix, append_prefix, item_width};
 pub use gateway::Gateway;
 pub use location::parse_location;
 pub use location_text::{LocationWord, location_words};
 pub use location_wire::is_location;
+pub use nsap::{NsapText, append_nsap};

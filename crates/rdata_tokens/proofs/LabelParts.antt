@@ -48,7 +48,7 @@ no_dot (SimpleEscape o) rest more h e = absurd (omega (arith, ap (λ r. get_or r
 no_dot (DecimalEscape o) rest more h e = absurd (omega (arith, ap (λ r. get_or r 0 0) e))
 
 -- no symbols of a label begin with a dot
-no_dots : (ss : List Symbol) (rest more : List ℕ) → AreLabelSpellings ss → flat_map spell ss ++ rest ≡ 46 ∷ more → 0 < length ss → ⊥
+pub no_dots : (ss : List Symbol) (rest more : List ℕ) → AreLabelSpellings ss → flat_map spell ss ++ rest ≡ 46 ∷ more → 0 < length ss → ⊥
 no_dots [] rest more h e some = omega arith
 no_dots (s ∷ ss) rest more h e some = no_dot s (flat_map spell ss ++ rest) more (label_head s ss h) (sym (append_assoc (spell s) (flat_map spell ss) rest) ∙ e)
 
@@ -58,7 +58,7 @@ empty_symbols (s ∷ ss) rest h =
     absurd (omega (arith, spell_some s, ap length h, length-append (spell s ++ flat_map spell ss) rest, length-append (spell s) (flat_map spell ss)))
 
 -- a beginning of a label that a dot follows
-open_within : (part label : List Symbol) (rest after : List ℕ) → AreLabelSpellings part → AreLabelSpellings label
+pub open_within : (part label : List Symbol) (rest after : List ℕ) → AreLabelSpellings part → AreLabelSpellings label
     → flat_map spell part ++ rest ≡ flat_map spell label ++ 46 ∷ after
     → (more : List Symbol) × (label ≡ part ++ more) × AreLabelSpellings more × (rest ≡ flat_map spell more ++ 46 ∷ after)
 open_within [] label rest after p q h = (label, refl, q, h)
@@ -70,7 +70,7 @@ open_within (s ∷ ss) (t ∷ ts) rest after p q h =
     (more.0, (let f = e.0 in let g = more.1 in cc), more.2, more.3)
 
 -- a label with its dot is that of another, and the rest too
-dotted_same : (part label : List Symbol) (rest after : List ℕ) → AreLabelSpellings part → AreLabelSpellings label
+pub dotted_same : (part label : List Symbol) (rest after : List ℕ) → AreLabelSpellings part → AreLabelSpellings label
     → flat_map spell part ++ 46 ∷ rest ≡ flat_map spell label ++ 46 ∷ after → (label ≡ part) × (rest ≡ after)
 dotted_same part label rest after p q h =
     let w = open_within part label (46 ∷ rest) after p q h in same w.0 w.1 w.2 w.3
@@ -215,7 +215,7 @@ wire_length_cons label labels = omega (arith, sum_by-cons (λ l. length l + 1) l
 pub wire_length_push : (labels : List (List ℕ)) (label : List ℕ) → wire_length (labels ++ label ∷ []) ≡ wire_length labels + (length label + 1)
 wire_length_push labels label = omega (arith, wire_length_append labels (label ∷ []), wire_length_cons label [])
 
-part_length : (part : List Symbol) → length (map octet_for part) ≡ length part
+pub part_length : (part : List Symbol) → length (map octet_for part) ≡ length part
 part_length [] = refl
 part_length (s ∷ ss) = ap suc (part_length ss)
 

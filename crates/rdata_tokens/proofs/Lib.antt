@@ -5,6 +5,7 @@ pub mod NameAnswers
 pub mod NameFronts
 pub mod NameLaws
 pub mod NameReadings
+pub mod NameReasons
 pub mod NameWords
 pub mod PrintedLabels
 pub mod PutLabels

@@ -123,7 +123,7 @@ pub record FittingName (text form : List ℕ) : Type 0 where
   pub fitting : Fitting text
   pub long : wire_length (part_labels fitting.all fitting.last) ≤ length form
 
-fitting_name : (origin : Option (List (List ℕ))) (text form : List ℕ) → SpellsName origin text form → text ≢ 46 ∷ [] → text ≢ 64 ∷ [] → FittingName text form
+pub fitting_name : (origin : Option (List (List ℕ))) (text form : List ℕ) → SpellsName origin text form → text ≢ 46 ∷ [] → text ≢ 64 ∷ [] → FittingName text form
 fitting_name origin text form s no_dot no_at = of s.spelled
   where
     length_form : (labels tail : List (List ℕ)) → s.labels ≡ labels ++ tail → (length form ≡ wire_length labels + wire_length tail) × (wire_length labels + wire_length tail ≤ 255)
@@ -189,10 +189,10 @@ labels_refused room origin text old why no_dot no_at (inl h) = inl (h.0, (h.1.0,
 labels_refused room origin text old why no_dot no_at (inr h) =
     inr (why_bad origin text why no_dot h, λ form s. none_fitting text why h (fitting_name origin text form s no_dot no_at).fitting)
 
-none_some : {A : Type 0} (a : A) (o : Option A) → o ≡ None → o ≡ Some a → ⊥
+pub none_some : {A : Type 0} (a : A) (o : Option A) → o ≡ None → o ≡ Some a → ⊥
 none_some a o h k = let e : None ≡ Some a = sym h ∙ k in cc
 
-no_relative : (origin : Option (List (List ℕ))) (text : List ℕ) (labels : List (List ℕ)) → origin ≡ None → IsRelative text → SpellsLabels origin text labels → ⊥
+pub no_relative : (origin : Option (List (List ℕ))) (text : List ℕ) (labels : List (List ℕ)) → origin ≡ None → IsRelative text → SpellsLabels origin text labels → ⊥
 no_relative origin text labels none (inl at) (root_alone e f) = not_both text e at
 no_relative origin text labels none (inr rel) (root_alone e f) = root_no_parts text rel.0 rel.1 e rel.2 (let some = rel.3 in omega (arith, some))
 no_relative origin text labels none rel (origin_alone e f) = none_some labels origin none f
@@ -207,7 +207,7 @@ origin_lacking room origin text old none rel = inr ((none, rel), λ form s. no_r
 pub labels_relative : (text old middle : List ℕ) (count : ℕ) (is_absolute : Bool) → GainsLabels text old middle count is_absolute → is_absolute ≡ false → IsRelative text
 labels_relative text old middle count is_absolute g e = inr (g.parts, g.last, g.spelled, last_some g.last is_absolute g.ends e, omega (arith, g.fits, g.count_is))
 
-no_long : (origin : Option (List (List ℕ))) (text form : List ℕ) → IsLongWithOrigin origin text → SpellsName origin text form → ⊥
+pub no_long : (origin : Option (List (List ℕ))) (text form : List ℕ) → IsLongWithOrigin origin text → SpellsName origin text form → ⊥
 no_long origin text form h s = of s.spelled
   where
     of : SpellsLabels origin text s.labels → ⊥

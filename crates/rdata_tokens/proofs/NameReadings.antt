@@ -108,7 +108,7 @@ pub record Fitting (text : List ℕ) : Type 0 where
   pub fits : wire_length (part_labels all last) ≤ 254
 
 -- no labels follow a bad escape
-bad_within : (parts : List (List Symbol)) (part : List Symbol) (rest : List ℕ) (all : List (List Symbol)) (last : List Symbol) → BeginsBadEscape rest → Within parts part rest all last → ⊥
+pub bad_within : (parts : List (List Symbol)) (part : List Symbol) (rest : List ℕ) (all : List (List Symbol)) (last : List Symbol) → BeginsBadEscape rest → Within parts part rest all last → ⊥
 bad_within parts part rest all last bad (in_part [] others is own after) = bad.none (Char 46) (dotted_parts others ++ flat_map spell last) refl after
 bad_within parts part rest all last bad (in_part (s ∷ ss) others is own after) =
     bad.none s (flat_map spell ss ++ 46 ∷ (dotted_parts others ++ flat_map spell last)) (label_is_spelling s (label_head s ss own)) (after ∙ append_assoc (spell s) (flat_map spell ss) _)
@@ -116,7 +116,7 @@ bad_within parts part rest all last bad (in_last [] is whole own after) = omega 
 bad_within parts part rest all last bad (in_last (s ∷ ss) is whole own after) = bad.none s (flat_map spell ss) (label_is_spelling s (label_head s ss own)) after
 
 -- nor if a label has no octets
-empty_within : (parts : List (List Symbol)) (rest : List ℕ) (all : List (List Symbol)) (last : List Symbol) → EndsLabel rest → (rest ≡ [] → parts ≡ []) → All IsLabelPart all
+pub empty_within : (parts : List (List Symbol)) (rest : List ℕ) (all : List (List Symbol)) (last : List Symbol) → EndsLabel rest → (rest ≡ [] → parts ≡ []) → All IsLabelPart all
     → 0 < length all + length last → Within parts [] rest all last → ⊥
 empty_within parts rest all last (inl none) no_end each some (in_part more others is own after) = nothing_follows more (dotted_parts others ++ flat_map spell last) (sym none ∙ after)
 empty_within parts rest all last (inl none) no_end each some (in_last more is whole own after) =
@@ -140,7 +140,7 @@ pub record Longer (parts : List (List Symbol)) (part : List Symbol) (all : List 
   pub rest : List ℕ
   pub is : Within parts (part ++ octet ∷ []) rest all last
 
-longer : (parts : List (List Symbol)) (part : List Symbol) (rest : List ℕ) (all : List (List Symbol)) (last : List Symbol) → NextOctetIs rest → Within parts part rest all last
+pub longer : (parts : List (List Symbol)) (part : List Symbol) (rest : List ℕ) (all : List (List Symbol)) (last : List Symbol) → NextOctetIs rest → Within parts part rest all last
     → Longer parts part all last
 longer parts part rest all last next (in_part [] others is own after) = absurd (no_dot next.0 next.1 (dotted_parts others ++ flat_map spell last) next.2 (sym next.3 ∙ after))
 longer parts part rest all last next (in_part (s ∷ ss) others is own after) = record {
@@ -158,7 +158,7 @@ longer parts part rest all last next (in_last (s ∷ ss) is whole own after) = r
 }
 
 -- a label within labels of at most 63 octets has at most 63 octets
-within_short : (parts : List (List Symbol)) (part : List Symbol) (rest : List ℕ) (all : List (List Symbol)) (last : List Symbol) → All IsLabelPart all → length last ≤ 63
+pub within_short : (parts : List (List Symbol)) (part : List Symbol) (rest : List ℕ) (all : List (List Symbol)) (last : List Symbol) → All IsLabelPart all → length last ≤ 63
     → Within parts part rest all last → length part ≤ 63
 within_short parts part rest all last each short (in_part more others is own after) = below parts (subst (All IsLabelPart) is each)
   where

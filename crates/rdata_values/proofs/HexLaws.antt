@@ -4,7 +4,7 @@ use Rattle.std.specs.Prelude.{All}
 use Rattle.std.specs.Char.{digit_value}
 use Rattle.std.proofs.lemmas.Bool.Decides.{nat_tests}
 use Rattle.std.proofs.lemmas.List.Elements.{All-head, All-tail}
-use Rattle.rdata_values.specs.Hex.{IsPair, IsHex, pair_digit, pair_text, pairs_text}
+use Rattle.rdata_values.specs.Hex.{IsPair, IsHex, pair_digit, pair_text, pairs_text, small_pairs}
 
 upper : (n : ℕ) → n < 16 → digit_value (pair_digit 65 n) ≡ n
 upper n small = Prim.grind (arith, nat_tests)
@@ -47,3 +47,9 @@ pub hex_more : (os : List ℕ) (i : ℕ) → i < length os → pairs_text (take 
 hex_more [] i here = absurd (omega (arith, here))
 hex_more (o ∷ os) zero here = refl
 hex_more (o ∷ os) (suc i) here = let e : suc i + 1 ≡ suc (i + 1) = omega arith in rw e (ap (λ text. pair_text 65 o ++ text) (hex_more os i (omega (arith, here))))
+
+-- the same in lower case
+pub small_more : (os : List ℕ) (i : ℕ) → i < length os → small_pairs (take (i + 1) os) ≡ small_pairs (take i os) ++ pair_text 97 (get_or os i 0)
+small_more [] i here = absurd (omega (arith, here))
+small_more (o ∷ os) zero here = refl
+small_more (o ∷ os) (suc i) here = let e : suc i + 1 ≡ suc (i + 1) = omega arith in rw e (ap (λ text. pair_text 97 o ++ text) (small_more os i (omega (arith, here))))

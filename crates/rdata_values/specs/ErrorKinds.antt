@@ -3,7 +3,7 @@ use Rattle.std.specs.Prelude.{ℕ, List, codes, ◌==◌, if◌then◌else◌}
 use Rattle.dns_lexer.specs.declared.pieces.Wrong.{Wrong}
 use Rattle.dns_lexer.specs.declared.pieces.Wrong.TheVariants.{Closing, OpenParenthesis, OpenQuote, LoneReturn, BadEscape as WrongEscape}
 use Rattle.rdata_values.specs.declared.error.ErrorKind.{ErrorKind}
-use Rattle.rdata_values.specs.declared.error.ErrorKind.TheVariants.{ShortBuf, Syntax, EndOfEntry, TrailingToken, Quoted, QuotedName, NotQuoted, ExpectedNumber, NumberOverflow, ExpectedIpv4, ExpectedIpv6, ExpectedTtl, ExpectedInterval, ExpectedTime, UnknownType, UnknownClass, UnknownAlgorithm, UnknownCertificate, UnknownScheme, ExpectedEui48, ExpectedEui64, ExpectedLocator, ExpectedSalt, ExpectedPsdnAddress, BadEscape, LongString, BadTag, EmptyLabel, LongLabel, LongName, NoOrigin, ExpectedHex, UnevenHex, IllegalBase64, TrailingBase64, IncompleteBase64, IllegalBase32, ShortBase32, LongHash, ExpectedLatitude, ExpectedLongitude, ExpectedAltitude, ExpectedSize, ExpectedEnd, ExpectedPrefix, ExpectedGateway, UnknownGateway, QuotedParam, GluedParam, UnknownKey, UnexpectedValue, RepeatedKey, LongValue, RepeatedParam, ListString, ListEscape, ShortParams, ParamOrder, ParamValue, MissingParam, TypeZero, NotOfType, NoDataType, NoTextForm, WrongLength, TrailingArgument, NotSupported, UnknownDirective, NoOwner, RefusedOwner, NoTtl}
+use Rattle.rdata_values.specs.declared.error.ErrorKind.TheVariants.{ShortBuf, Syntax, EndOfEntry, TrailingToken, Quoted, QuotedName, NotQuoted, ExpectedNumber, NumberOverflow, ExpectedIpv4, ExpectedIpv6, ExpectedTtl, ExpectedInterval, ExpectedTime, UnknownType, UnknownClass, UnknownAlgorithm, UnknownCertificate, UnknownScheme, ExpectedEui48, ExpectedEui64, ExpectedLocator, ExpectedSalt, ExpectedPsdnAddress, BadEscape, LongString, BadTag, EmptyLabel, LongLabel, LongName, NoOrigin, ExpectedHex, UnevenHex, IllegalBase64, TrailingBase64, IncompleteBase64, IllegalBase32, ShortBase32, LongHash, ExpectedLatitude, ExpectedLongitude, ExpectedAltitude, ExpectedSize, ExpectedEnd, ExpectedPrefix, ExpectedNsap, ExpectedGateway, UnknownGateway, ExpectedHit, LongKey, QuotedParam, GluedParam, UnknownKey, UnexpectedValue, RepeatedKey, LongValue, RepeatedParam, ListString, ListEscape, ShortParams, ParamOrder, ParamValue, MissingParam, TypeZero, NotOfType, NoDataType, NoTextForm, WrongLength, TrailingArgument, NotSupported, UnknownDirective, NoOwner, RefusedOwner, NoTtl}
 
 -- the message of a syntax error
 abbrev pub syntax_text : Wrong → List ℕ
@@ -33,7 +33,7 @@ error_kind_text ExpectedNumber = codes "expected decimal number"
 error_kind_text (NumberOverflow most) = codes "decimal number overflow"
 error_kind_text ExpectedIpv4 = codes "expected IPv4 address"
 error_kind_text ExpectedIpv6 = codes "expected IPv6 address"
-error_kind_text ExpectedTtl = codes "expected time to live"
+error_kind_text ExpectedTtl = codes "expected TTL"
 error_kind_text ExpectedInterval = codes "expected interval"
 error_kind_text ExpectedTime = codes "expected signature time"
 error_kind_text UnknownType = codes "unknown record type"
@@ -67,8 +67,11 @@ error_kind_text ExpectedAltitude = codes "expected altitude"
 error_kind_text ExpectedSize = codes "expected size"
 error_kind_text ExpectedEnd = codes "expected end of entry"
 error_kind_text ExpectedPrefix = codes "expected address prefix"
+error_kind_text ExpectedNsap = codes "expected 0x and hex digits"
 error_kind_text ExpectedGateway = codes "expected gateway"
 error_kind_text UnknownGateway = codes "unknown gateway type"
+error_kind_text ExpectedHit = codes "expected 1 to 255 octets in hex"
+error_kind_text LongKey = codes "key with more than 65535 octets"
 error_kind_text QuotedParam = codes "expected service parameter without quotes"
 error_kind_text GluedParam = codes "token touches a service parameter"
 error_kind_text UnknownKey = codes "unknown key of a service parameter"
@@ -92,4 +95,4 @@ error_kind_text NotSupported = codes "not supported: expand it first"
 error_kind_text UnknownDirective = codes "unknown directive"
 error_kind_text NoOwner = codes "no owner"
 error_kind_text RefusedOwner = codes "the owner before is refused"
-error_kind_text NoTtl = codes "no time to live"
+error_kind_text NoTtl = codes "no TTL"

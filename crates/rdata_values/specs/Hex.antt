@@ -24,6 +24,11 @@ abbrev pub pairs_text : List ℕ → List ℕ
 pairs_text [] = []
 pairs_text (o ∷ os) = pair_text 65 o ++ pairs_text os
 
+-- a pair in lower case for each octet
+abbrev pub small_pairs : List ℕ → List ℕ
+small_pairs [] = []
+small_pairs (o ∷ os) = pair_text 97 o ++ small_pairs os
+
 -- a pair in lower case, after a mark if there is one
 abbrev pub marked_pair : Bool → ℕ → ℕ → List ℕ
 marked_pair is_marked mark octet = (if is_marked then mark ∷ [] else []) ++ pair_text 97 octet

@@ -1,5 +1,5 @@
 //! The classes of records (RFC 1035 section 3.2.4, RFC 3597 section 5).
-ghost use Rattle.std.specs.Prelude.{◌≡◌, Some, false, option_copied};
+ghost use Rattle.std.specs.Prelude.{◌≡◌, IsTrue, Some, false, option_copied};
 ghost use Rattle.rdata_values.specs.Kind.{ReadsKind};
 ghost use Rattle.rdata_values.specs.Registry.{row_name};
 ghost use Rattle.rdata_values.specs.Classes.{class_rows, SpellsClass, class_text, ClassesAreKind};
@@ -7,6 +7,7 @@ ghost use Rattle.rdata_values.specs.declared.error.ErrorKind.TheVariants.{Unknow
 
 use crate::error::ErrorKind;
 use crate::registry::{Named, code_from_text, name_of};
+use crate::types::is_name;
 use std::fmt;
 use std::marker::Model;
 
@@ -38,6 +39,24 @@ fn is_class_long(text: &[u8]) -> bool
     text.len() == 2 || text.len() > 5
 }
 
+/// Returns whether a text is the name of a common type of 2 octets, in capital letters. No such text
+/// names a class. A class is searched for at the place of a type if a record has no class.
+#[inline(always)]
+fn is_common_type(text: &[u8]) -> bool
+    ensures { IsTrue result → (c : Class) → SpellsClass text.now c → ⊥ }
+{
+    if is_name(text, b"NS") {
+        return true;
+    }
+    if is_name(text, b"MX") {
+        return true;
+    }
+    if is_name(text, b"DS") {
+        return true;
+    }
+    false
+}
+
 impl Class {
     /// Class IN, the Internet (RFC 1035 section 3.2.4).
     pub const IN: Class = Class(1);
@@ -53,6 +72,12 @@ impl Class {
         ensures { ReadsKind SpellsClass UnknownClass text.now result }
     {
         if !is_class_long(text) {
+            return Err(ErrorKind::UnknownClass);
+        }
+        if is_name(text, b"IN") {
+            return Ok(Class::IN);
+        }
+        if is_common_type(text) {
             return Err(ErrorKind::UnknownClass);
         }
         match code_from_text(&CLASSES, "CLASS", u16::MAX, text, ErrorKind::UnknownClass) {

@@ -108,10 +108,16 @@ pub enum ErrorKind {
     ExpectedEnd,
     /// The text is not an item of an address prefix list.
     ExpectedPrefix,
+    /// The text does not begin with `0x`, or no digit follows it.
+    ExpectedNsap,
     /// The text is not a gateway of its type.
     ExpectedGateway,
     /// The type of a gateway is above 3.
     UnknownGateway,
+    /// The host identity tag of a HIP is not 1 to 255 octets in hexadecimal digits.
+    ExpectedHit,
+    /// The public key of a HIP has more than 65535 octets.
+    LongKey,
     /// A quoted string is where a service parameter begins.
     QuotedParam,
     /// A token is adjacent to the service parameter before it.
@@ -209,7 +215,7 @@ impl ErrorKind {
             ErrorKind::NumberOverflow { .. } => "decimal number overflow",
             ErrorKind::ExpectedIpv4 => "expected IPv4 address",
             ErrorKind::ExpectedIpv6 => "expected IPv6 address",
-            ErrorKind::ExpectedTtl => "expected time to live",
+            ErrorKind::ExpectedTtl => "expected TTL",
             ErrorKind::ExpectedInterval => "expected interval",
             ErrorKind::ExpectedTime => "expected signature time",
             ErrorKind::UnknownType => "unknown record type",
@@ -243,8 +249,11 @@ impl ErrorKind {
             ErrorKind::ExpectedSize => "expected size",
             ErrorKind::ExpectedEnd => "expected end of entry",
             ErrorKind::ExpectedPrefix => "expected address prefix",
+            ErrorKind::ExpectedNsap => "expected 0x and hex digits",
             ErrorKind::ExpectedGateway => "expected gateway",
             ErrorKind::UnknownGateway => "unknown gateway type",
+            ErrorKind::ExpectedHit => "expected 1 to 255 octets in hex",
+            ErrorKind::LongKey => "key with more than 65535 octets",
             ErrorKind::QuotedParam => "expected service parameter without quotes",
             ErrorKind::GluedParam => "token touches a service parameter",
             ErrorKind::UnknownKey => "unknown key of a service parameter",
@@ -268,7 +277,7 @@ impl ErrorKind {
             ErrorKind::UnknownDirective => "unknown directive",
             ErrorKind::NoOwner => "no owner",
             ErrorKind::RefusedOwner => "the owner before is refused",
-            ErrorKind::NoTtl => "no time to live",
+            ErrorKind::NoTtl => "no TTL",
         }
     }
 }

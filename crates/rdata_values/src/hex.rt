@@ -1,9 +1,9 @@
 //! Octets as pairs of hexadecimal digits.
-ghost use Rattle.std.specs.Prelude.{◌≡◌, ◌<◌, ◌+◌, ◌*◌, length, Bool, SomeIff};
+ghost use Rattle.std.specs.Prelude.{◌≡◌, ◌<◌, ◌+◌, ◌*◌, length, Bool, Some, SomeIff};
 ghost use Rattle.std.specs.Char.{digit_value};
 ghost use Rattle.std.specs.Fmt.{WritesOnOk};
 ghost use Rattle.rdata_values.specs.Hex.{pair_digit, IsHex, WritesOctets, pair_text, pairs_text};
-ghost use Rattle.rdata_values.specs.Hex.{marked_pair, grouped_text, begins_group};
+ghost use Rattle.rdata_values.specs.Hex.{marked_pair, grouped_text, begins_group, small_pairs};
 
 use std::fmt;
 
@@ -120,4 +120,26 @@ pub(crate) fn write_groups<W: fmt::Write>(
         write_marked_pair(begins_group(size, index), mark, *octet, f)?;
     }
     Ok(())
+}
+
+/// Prints octets as pairs of digits in lower case.
+fn write_small_pairs<W: fmt::Write>(octets: &[u8], f: &mut fmt::Formatter<W>) -> fmt::Result
+    ensures { WritesOnOk W.write_str_gives f.old result (small_pairs octets.now) f.new }
+{
+    for octet in octets {
+        write_marked_pair(false, b' ', *octet, f)?;
+    }
+    Ok(())
+}
+
+/// Octets that print as pairs of hexadecimal digits in lower case.
+#[derive(Clone, Copy)]
+pub struct HexPairs<'a>(pub &'a [u8]);
+
+impl fmt::Display for HexPairs<'_> {
+    ghost output = { λ h. Some (small_pairs h.0.now) };
+
+    fn fmt<W: fmt::Write>(&self, f: &mut fmt::Formatter<W>) -> fmt::Result {
+        write_small_pairs(self.0, f)
+    }
 }

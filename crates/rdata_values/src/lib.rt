@@ -35,6 +35,7 @@ pub use classes::Class;
 pub use code_set::CodeSet;
 pub use error::ErrorKind;
 pub use eui::{Eui48, Eui64};
+pub use hex::HexPairs;
 pub use locator::Locator;
 pub use numbers::{u8_from_text, u16_from_text, u32_from_text};
 pub use salt::Salt;

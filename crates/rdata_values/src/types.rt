@@ -138,7 +138,7 @@ impl Model for RecordType {
 
 /// Returns whether a text is a name, in the same case.
 #[inline(always)]
-fn is_name(text: &[u8], name: &[u8]) -> bool
+pub(crate) fn is_name(text: &[u8], name: &[u8]) -> bool
     ensures { IsTrue result ↔ (text.now ≡ name.now) }
 {
     text == name

@@ -4,6 +4,7 @@ use Rattle.rdata_tokens.specs.declared.kind.DigitsKind.TheVariants.{Hex as InHex
 use Rattle.rdata.specs.Digits.{digits_form}
 use Rattle.rdata.specs.LocationRest.{location_form}
 use Rattle.rdata.specs.MaybeStrings.{maybe_string_form}
+use Rattle.rdata.specs.NsapRest.{nsap_form}
 use Rattle.rdata.specs.ParamsRest.{params_form}
 use Rattle.rdata.specs.PrefixLists.{prefixes_form}
 use Rattle.rdata.specs.RestKinds.{strings_form}
@@ -50,6 +51,13 @@ returns-in-Base64-clause-takes g c =
     let octets = g.B.AsOctets.octets in
     rw (c.in-Base64.is, c.in_field_after-in-Base64.ensures)
     (one_part g.B.OctetsBuilder.room (some_form (digits_form InBase64)) c.args.before (g.S.TokenSource.end c.args.source.now).at (left c.args.source.now) (octets c.args.target.now) c.parse_some_digits-in-Base64.result (left c.parse_some_digits-in-Base64.new.source) (octets c.parse_some_digits-in-Base64.new.target) c.parse_some_digits-in-Base64.ensures.takes)
+
+pub returns-in-Nsap-clause-takes : goal.returns-in-Nsap-clause-takes
+returns-in-Nsap-clause-takes g c =
+    let left = g.S.TokenSource.left in
+    let octets = g.B.AsOctets.octets in
+    rw (c.in-Nsap.is, c.in_field_after-in-Nsap.ensures)
+    (one_part g.B.OctetsBuilder.room nsap_form c.args.before (g.S.TokenSource.end c.args.source.now).at (left c.args.source.now) (octets c.args.target.now) c.parse_nsap.result (left c.parse_nsap.new.source) (octets c.parse_nsap.new.target) c.parse_nsap.ensures.takes)
 
 pub returns-in-Types-clause-takes : goal.returns-in-Types-clause-takes
 returns-in-Types-clause-takes g c =
@@ -99,3 +107,6 @@ returns-in-Params-clause-takes g c =
     let octets = g.B.AsOctets.octets in
     rw (c.in-Params.is, c.in_field_after-in-Params.ensures)
     (one_part g.B.OctetsBuilder.room params_form c.args.before (g.S.TokenSource.end c.args.source.now).at (left c.args.source.now) (octets c.args.target.now) c.parse_service_params.result (left c.parse_service_params.new.source) (octets c.parse_service_params.new.target) c.parse_service_params.ensures.takes)
+
+pub returns-in-HostIdentity-clause-takes : goal.returns-in-HostIdentity-clause-takes
+returns-in-HostIdentity-clause-takes g c = rw c.in-HostIdentity.is c.parse_host_parts.ensures.takes
