@@ -1,5 +1,5 @@
 -- Data is never rejected with the kind `Syntax`, which is for errors of the text.
-use Rattle.std.proofs.Common.{ℕ, ◌≡◌, Bool, true, false, List, [], ◌∷◌, Option, None, Err, sym, subst, ap, ◌∙◌, inl, inr}
+use Rattle.std.proofs.Common.{ℕ, ◌≡◌, Bool, true, false, List, [], ◌∷◌, Option, None, Err, take, drop, sym, subst, ap, ◌∙◌, inl, inr}
 use Rattle.std.specs.Prelude.{◌^◌, if◌then◌else◌, slice_index}
 use Rattle.dns_octets.specs.Room.{Room}
 use Rattle.dns_lexer.specs.EntryTokens.{TokenSeen}
@@ -27,15 +27,19 @@ use Rattle.rdata.specs.Digits.{IsDigitsFault, JoinedReason, digits_form}
 use Rattle.rdata.specs.GatewayKeys.{GatewayTypeReason, gateway_form, gateway_key_form, gateway_type_form, key_form, octet_form}
 use Rattle.rdata.specs.Generic.{GenericReason, WhyNoCount, generic_form}
 use Rattle.rdata.specs.PrefixLists.{prefix_form}
+use Rattle.rdata.specs.HeldForms.{held_form}
+use Rattle.rdata.specs.HostIdentities.{PublicKeyReason, hit_form, host_identity_form, public_key_form, server_form}
 use Rattle.rdata.specs.MaybeStrings.{MaybeStringReason}
+use Rattle.rdata.specs.NsapRest.{nsap_word_form}
+use Rattle.rdata.specs.OneToken.{OneReason}
 use Rattle.rdata.specs.RestKinds.{StringTokensReason, rest_form}
 use Rattle.rdata.specs.Rests.{AfterSomeTokens, RefusesAs, RefusesRest, RestForm}
 use Rattle.rdata.specs.Texts.{TextReason}
-use Rattle.rdata.specs.TokenForms.{ReasonAfter, ThenReason, TokenForm, then_form}
+use Rattle.rdata.specs.TokenForms.{ReasonAfter, ThenReason, TokenForm, each_form, then_form}
 use Rattle.rdata.specs.TypeLists.{TypesReason}
 use Rattle.rdata.specs.Types.{TypeShape}
 use Rattle.rdata.specs.declared.rest.Rest.{Rest}
-use Rattle.rdata.specs.declared.rest.Rest.TheVariants.{Nothing, Strings, MaybeString, Hex, Base64, Types, SomeTypes, Text, QuotedText, Location, Prefixes, GatewayKey, Params}
+use Rattle.rdata.specs.declared.rest.Rest.TheVariants.{Nothing, Strings, MaybeString, Hex, Base64, Types, SomeTypes, Text, QuotedText, Location, Prefixes, GatewayKey, HostIdentity, Params, Nsap}
 use Rattle.rdata.specs.declared.shape.Shape.{Shape}
 
 module _ (w : Wrong) where
@@ -130,7 +134,7 @@ module _ (w : Wrong) where
   unfinished_quiet InBase64 h = cc
 
   joined_quiet : (kind : DigitsKind) → Quiet (JoinedReason kind)
-  joined_quiet kind before [] h = unfinished_quiet kind h
+  joined_quiet kind before [] h = unfinished_quiet kind h.0
   joined_quiet kind before (t ∷ ts) (inl h) = let e = h.0 in cc
   joined_quiet kind before (t ∷ ts) (inr h) = digits_quiet kind _ h.1
 
@@ -153,8 +157,8 @@ module _ (w : Wrong) where
 
   prefix_quiet : Quiet (ReasonAfter prefix_form)
   prefix_quiet before [] h = h
-  prefix_quiet before (t ∷ ts) (octets, inl h) = let e = h.0 in cc
-  prefix_quiet before (t ∷ ts) (octets, inr h) = let e = h.0 in cc
+  prefix_quiet before (t ∷ ts) (octets, inl h, none) = let e = h.0 in cc
+  prefix_quiet before (t ∷ ts) (octets, inr h, none) = let e = h.0 in cc
 
   -- ---- a gateway and a key
 
@@ -162,6 +166,17 @@ module _ (w : Wrong) where
   then_quiet f behind first rest [] left h = let e = h.1 in cc
   then_quiet f behind first rest (t ∷ ts) left (inl h) = first t h.1
   then_quiet f behind first rest (t ∷ ts) left (inr h) = rest h.0 ts left h.2
+
+  one_quiet : (f : TokenForm) → TokenQuiet f.reason → Quiet (OneReason f)
+  one_quiet f first [] left h = let e = h.1 in cc
+  one_quiet f first (t ∷ ts) left (inl h) = first t h.1
+  one_quiet f first (t ∷ ts) left (inr h) = let e = h.1 in cc
+
+  nsap_quiet : TokenQuiet nsap_word_form.reason
+  nsap_quiet t (inl h) = let e = h.0 in cc
+  nsap_quiet t (inr (q, inl h, never)) = let e = h.0 in cc
+  nsap_quiet t (inr (q, inr (digits, has, some, inl h), never)) = let e = h.0 in cc
+  nsap_quiet t (inr (q, inr (digits, has, some, inr h), never)) = let e = h.0 in cc
 
   octet_quiet : TokenQuiet octet_form.reason
   octet_quiet t h = field_quiet None Number8 t.is_quoted t.text h
@@ -189,6 +204,33 @@ module _ (w : Wrong) where
   gateway_key_quiet origin =
       then_quiet gateway_type_form (behind_type origin) gateway_type_quiet (λ number. then_quiet octet_form (behind_algorithm origin number) octet_quiet (λ algorithm.
       then_quiet (gateway_form origin (slice_index number 0)) (λ gateway. key_form (slice_index algorithm 0)) (gateway_quiet origin (slice_index number 0)) (λ gateway. key_quiet (slice_index algorithm 0))))
+
+  -- ---- a host identity
+
+  hit_quiet : TokenQuiet hit_form.reason
+  hit_quiet t (inl h) = let e = h.0 in cc
+  hit_quiet t (inr h) = let e = h.0 in cc
+
+  public_key_quiet : TokenQuiet PublicKeyReason
+  public_key_quiet t (inl h) = let e = h.0 in cc
+  public_key_quiet t (inr (plain, inl h)) = let e = h.0 in cc
+  public_key_quiet t (inr (plain, inr (inl h))) = digits_quiet InBase64 t.text h
+  public_key_quiet t (inr (plain, inr (inr h))) = let e = h.0 in cc
+
+  server_quiet : (origin : Option (List (List ℕ))) → Quiet (ReasonAfter (server_form origin))
+  server_quiet origin before [] h = h
+  server_quiet origin before (t ∷ ts) h = field_quiet origin Name t.is_quoted t.text h.1
+
+  abbrev after_hit : Option (List (List ℕ)) → List ℕ → List ℕ → RestForm
+  after_hit origin algorithm hit = then_form (public_key_form (slice_index algorithm 0) hit) (λ key. each_form (server_form origin))
+
+  abbrev after_algorithm : Option (List (List ℕ)) → List ℕ → RestForm
+  after_algorithm origin algorithm = held_form (λ octets. take (slice_index octets 0) (drop 4 octets)) hit_form (after_hit origin algorithm)
+
+  host_quiet : (origin : Option (List (List ℕ))) → Quiet (host_identity_form origin).reason
+  host_quiet origin =
+      then_quiet octet_form (after_algorithm origin) octet_quiet (λ algorithm. then_quiet hit_form (after_hit origin algorithm) hit_quiet (λ hit.
+      then_quiet (public_key_form (slice_index algorithm 0) hit) (λ key. each_form (server_form origin)) public_key_quiet (λ key. behind_quiet (ReasonAfter (server_form origin)) (server_quiet origin))))
 
   -- ---- service parameters
 
@@ -251,6 +293,7 @@ module _ (w : Wrong) where
   rest_quiet origin Hex tokens left (inr h) = let e = h.0 in cc
   rest_quiet origin Base64 tokens left (inl h) = digits_form_quiet InBase64 tokens left h
   rest_quiet origin Base64 tokens left (inr h) = let e = h.0 in cc
+  rest_quiet origin Nsap tokens left h = one_quiet nsap_word_form nsap_quiet tokens left h
   rest_quiet origin Types tokens left h = behind_quiet TypesReason types_quiet tokens left h
   rest_quiet origin SomeTypes tokens left (inl h) = behind_quiet TypesReason types_quiet tokens left h
   rest_quiet origin SomeTypes tokens left (inr h) = let e = h.0 in cc
@@ -259,6 +302,7 @@ module _ (w : Wrong) where
   rest_quiet origin Location tokens left h = h.0
   rest_quiet origin Prefixes tokens left h = behind_quiet (ReasonAfter prefix_form) prefix_quiet tokens left h
   rest_quiet origin GatewayKey tokens left h = gateway_key_quiet origin tokens left h
+  rest_quiet origin HostIdentity tokens left h = host_quiet origin tokens left h
   rest_quiet origin Params tokens left h = params_quiet tokens left h
 
   count_quiet : (tokens : List TokenSeen) → WhyNoCount tokens (Syntax w) → ⊥
@@ -309,7 +353,7 @@ module _ (w : Wrong) where
     data_refused rtype (inl h) = let other : Syntax w ≡ NoDataType = other_kind e NoDataType (ap (λ x. x.kind) h.0) is in cc
     data_refused rtype (inr (inl h)) = generic_refused (shape_of_code rtype) h.2
     data_refused rtype (inr (inr (inl h))) = let other : Syntax w ≡ NoTextForm = other_kind e NoTextForm (ap (λ x. x.kind) h.0) is in cc
-    data_refused rtype (inr (inr (inr (mark, (shape, has, h))))) = elim h.0 [ inl field ↦ fields_refused shape.fields.now field | inr behind ↦ behind_refused shape behind ]
+    data_refused rtype (inr (inr (inr (mark, (shape, has, h), is_type)))) = elim h.0 [ inl field ↦ fields_refused shape.fields.now field | inr behind ↦ behind_refused shape behind ]
 
   pub type_refused : (origin : Option (List (List ℕ))) (room : Room) (rtype : RecordType) (end : ℕ) (tokens left : List TokenSeen) (old new : List ℕ) (e : RecordError) → RefusesType origin room rtype end tokens old e left new → e.kind ≡ Syntax w → ⊥
   type_refused origin room rtype end tokens left old new e h is = data_refused origin room end tokens left old new h.0 (sym (ap (λ x. x.kind) h.1) ∙ is) rtype h.2

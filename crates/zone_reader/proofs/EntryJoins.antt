@@ -48,21 +48,21 @@ module _ (before : State) (known : NameState) (room : Room) (at end : ℕ) (old 
   abbrev later : Option ℕ → State
   later own = record before { owner = known; last_ttl = own_or_last own before.last_ttl }
 
-  behind_before : (w : RecordHeader) (r : Result (Unit {0}) RecordError) → ReadsDataAfterHeader (later w.ttl) at w old r new result → ReadsDataAfterHeader before at w old r new result
-  behind_before w (Err r) h = h
-  behind_before w (Ok u) h =
-      (h.0, h.1, (h.2.0, h.2.1, h.2.2 ∙ ap (record_with before at w) (chosen_same w.ttl before.default_ttl before.last_ttl h.2.0)))
+  behind_before : (data_at : ℕ) (w : RecordHeader) (r : Result (Unit {0}) RecordError) → ReadsDataAfterHeader (later w.ttl) at data_at end w old r new result → ReadsDataAfterHeader before at data_at end w old r new result
+  behind_before data_at w (Err r) h = h
+  behind_before data_at w (Ok u) h =
+      (h.0, h.1, (h.2.0, h.2.1, h.2.2 ∙ ap (record_with before at data_at end w) (chosen_same w.ttl before.default_ttl before.last_ttl h.2.0)))
 
   pub words_before : (first : Result (Unit {0}) RecordError) (words : Result RecordHeader HeaderError) (tokens : List TokenSeen) → ReadsAfterHeader (later (ttl_of_header words)) room at end first words tokens old result new
       → ReadsAfterHeader before room at end first words tokens old result new
   words_before (Err r) words tokens h = h
   words_before (Ok u) (Err r) tokens h = h
-  words_before (Ok u) (Ok w) tokens h = (h.0, h.1, h.2, behind_before w h.0 h.3)
+  words_before (Ok u) (Ok w) tokens h = (h.0, h.1, h.2, behind_before (next_place tokens end) w h.0 h.3)
 
   -- the minimum is that of the octets that were appended
-  pub minimum_gained : (w : RecordHeader) (begun : ℕ) (octets shown : List ℕ) (minimum : Option ℕ) → new ≡ old ++ octets → begun ≡ length old → shown ≡ new → IsMinimum w.rtype (take (length shown - begun) (drop begun shown)) minimum
-      → result ≡ record_with before at w (chosen_ttl w.ttl before.default_ttl before.last_ttl minimum) → ReadsDataAfterHeader before at w old (Ok tt) new result
-  minimum_gained w begun octets shown minimum gained is shows h found =
+  pub minimum_gained : (data_at : ℕ) (w : RecordHeader) (begun : ℕ) (octets shown : List ℕ) (minimum : Option ℕ) → new ≡ old ++ octets → begun ≡ length old → shown ≡ new → IsMinimum w.rtype (take (length shown - begun) (drop begun shown)) minimum
+      → result ≡ record_with before at data_at end w (chosen_ttl w.ttl before.default_ttl before.last_ttl minimum) → ReadsDataAfterHeader before at data_at end w old (Ok tt) new result
+  minimum_gained data_at w begun octets shown minimum gained is shows h found =
       let all = gained_is begun old new shown is shows ∙ ap (drop (length old)) gained ∙ drop-append_seam old octets in
       (octets, gained, (minimum, subst (λ l. IsMinimum w.rtype l minimum) all h, found))
 
@@ -188,14 +188,14 @@ module _ (room : Room) (blank : Bool) (end : ℕ) (tokens : List TokenSeen) (bef
   include_read (file ∷ []) d h = record {
     meaning = says_include file.text None;
     says = entries_say_taken.directive blank end tokens (file ∷ []) OfInclude _ d refl;
-    reads = subst (λ l. ReadsInclude (known_name before.origin) room (next_place l end) file.text None old r new) d.0 h.0.1;
+    reads = subst (λ l. ReadsInclude (known_name before.origin) room (next_place tokens end) end (next_place l end) file.text None old r new) d.0 h.0.1;
     extends = h.0.0;
     learns = stays h.1;
   }
   include_read (file ∷ t ∷ []) d h = record {
     meaning = says_include file.text (Some t);
     says = entries_say_taken.directive blank end tokens (file ∷ t ∷ []) OfInclude _ d refl;
-    reads = subst (λ l. ReadsInclude (known_name before.origin) room (next_place l end) file.text (Some t) old r new) d.0 h.0.1;
+    reads = subst (λ l. ReadsInclude (known_name before.origin) room (next_place tokens end) end (next_place l end) file.text (Some t) old r new) d.0 h.0.1;
     extends = h.0.0;
     learns = stays h.1;
   }

@@ -156,19 +156,19 @@ module _ (w : Wrong) where
     owner_refused None x known h fault = no_owner_quiet known (subst (WhyNoOwner known) fault h.2)
     owner_refused (Some t) x known h fault = name_refused (known_name before.origin) t x h.1 fault
 
-    without_ttl : (words : RecordHeader) (ttl : Option RecordTtl) → Err e ≡ record_with before at words ttl → ⊥
-    without_ttl words None h = let same : e ≡ error_at at NoTtl = cc in let other = other_kind w e NoTtl (ap (λ x. x.kind) same) is in cc
-    without_ttl words (Some ttl) h = cc
+    without_ttl : (data_at : ℕ) (words : RecordHeader) (ttl : Option RecordTtl) → Err e ≡ record_with before at data_at end words ttl → ⊥
+    without_ttl data_at words None h = let same : e ≡ error_at at NoTtl = cc in let other = other_kind w e NoTtl (ap (λ x. x.kind) same) is in cc
+    without_ttl data_at words (Some ttl) h = cc
 
-    behind_refused : (words : RecordHeader) (r : Result (Unit {0}) RecordError) (tokens left : List TokenSeen) → ReadsType (known_name before.origin) room words.rtype end tokens old r left new → ReadsDataAfterHeader before at words old r new (Err e) → ⊥
-    behind_refused words (Err x) tokens left h k = let same : e ≡ x = cc in type_refused w (known_name before.origin) room words.rtype end tokens left old new x h (sym (ap (λ r. r.kind) same) ∙ is)
-    behind_refused words (Ok u) tokens left h k = without_ttl words _ k.2.2
+    behind_refused : (data_at : ℕ) (words : RecordHeader) (r : Result (Unit {0}) RecordError) (tokens left : List TokenSeen) → ReadsType (known_name before.origin) room words.rtype end tokens old r left new → ReadsDataAfterHeader before at data_at end words old r new (Err e) → ⊥
+    behind_refused data_at words (Err x) tokens left h k = let same : e ≡ x = cc in type_refused w (known_name before.origin) room words.rtype end tokens left old new x h (sym (ap (λ r. r.kind) same) ∙ is)
+    behind_refused data_at words (Ok u) tokens left h k = without_ttl data_at words _ k.2.2
 
     words_read : (token : Option TokenSeen) (known : NameState) (first : Result (Unit {0}) RecordError) (words : Result RecordHeader HeaderError) (taken left : List TokenSeen) → ReadsOwner before at token first known → ParsesHeader end taken words left
         → ReadsAfterHeader before room at end first words left old (Err e) new → ⊥
     words_read token known (Err x) words taken left o t h = let same : e ≡ x = cc in owner_refused token x known o (sym (ap (λ r. r.kind) same) ∙ is)
     words_read token known (Ok u) (Err r) taken left o t h = let same : e ≡ r.error = cc in words_refused r end taken left t (sym (ap (λ x. x.kind) same) ∙ is)
-    words_read token known (Ok u) (Ok words) taken left o t h = behind_refused words h.0 left h.1 h.2 h.3
+    words_read token known (Ok u) (Ok words) taken left o t h = behind_refused (next_place left end) words h.0 left h.1 h.2 h.3
 
   meaning_refused : (before : State) (room : Room) (end : ℕ) (tokens : List TokenSeen) (m : EntryMeaning) (old new : List ℕ) (e : RecordError) (owner : NameState) → e.kind ≡ Syntax w → Sound end m
       → ReadsMeaning before room end tokens m old (Err e) owner new → ⊥

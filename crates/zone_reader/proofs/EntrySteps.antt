@@ -102,42 +102,42 @@ module _ (origin : Option (List (List ℕ))) (end : ℕ) where
     file_extends (t ∷ ts) left (Err e) new h = same_extends new h.1.0
 
     -- the origin's octets after the file's
-    included : (f : TokenSeen) (token : Option TokenSeen) (named : Option (List (List ℕ))) (n : ℕ) (middle new : List ℕ) (r : Result ParsedEntry RecordError) → AppendsFile room f old (Ok n) middle
-        → IncludesOrigin origin token named → FinishesInclude room f.at n named middle r new → Extends old new × ReadsInclude origin room f.at f.text token old r new
-    included f token named n middle new (Ok e) h k l =
+    included : (begin : ℕ) (f : TokenSeen) (token : Option TokenSeen) (named : Option (List (List ℕ))) (n : ℕ) (middle new : List ℕ) (r : Result ParsedEntry RecordError) → AppendsFile room f old (Ok n) middle
+        → IncludesOrigin origin token named → FinishesInclude room begin end f.at n named middle r new → Extends old new × ReadsInclude origin room begin end f.at f.text token old r new
+    included begin f token named n middle new (Ok e) h k l =
         let both : new ≡ old ++ (f.text ++ origin_octets named) = l.1 ∙ ap (λ o. o ++ origin_octets named) h.0 ∙ append_assoc old f.text (origin_octets named) in
-        ((f.text ++ origin_octets named, both), (named, l.0 ∙ ap (λ m. Include m (is_some named)) h.1, k, both))
-    included f token named n middle new (Err r) h k l =
+        ((f.text ++ origin_octets named, both), (named, l.0 ∙ ap (λ m. Include begin end m (is_some named)) h.1, k, both))
+    included begin f token named n middle new (Err r) h k l =
         ((f.text, l.0 ∙ h.0), inr (named, k, l.1, omega (arith, l.2, ap length h.0, length-append old f.text)))
 
-    pub include_finished : (tokens left : List TokenSeen) (at n : ℕ) (named : Option (List (List ℕ))) (middle new : List ℕ) (r : Result ParsedEntry RecordError) → at ≡ next_place tokens end → AppendsFileName room end tokens old (Ok n) left middle
-        → ParsesIncludedOrigin origin end left (Ok named) → FinishesInclude room at n named middle r new → ReadsLastInclude origin room end tokens old r new
-    include_finished [] left at n named middle new r is h k l = let no = h.1 in cc
-    include_finished (f ∷ []) left at n named middle new r is h k l =
-        included f None named n middle new r h.1 (subst (λ x. ParsesIncludedOrigin origin end x (Ok named)) h.0 k) (subst (λ m. FinishesInclude room m n named middle r new) is l)
-    include_finished (f ∷ t ∷ []) left at n named middle new r is h k l =
-        included f (Some t) named n middle new r h.1 (subst (λ x. ParsesIncludedOrigin origin end x (Ok named)) h.0 k) (subst (λ m. FinishesInclude room m n named middle r new) is l)
-    include_finished (f ∷ t ∷ v ∷ ts) left at n named middle new r is h k l = let no = subst (λ x. ParsesIncludedOrigin origin end x (Ok named)) h.0 k in cc
+    pub include_finished : (begin : ℕ) (tokens left : List TokenSeen) (at n : ℕ) (named : Option (List (List ℕ))) (middle new : List ℕ) (r : Result ParsedEntry RecordError) → at ≡ next_place tokens end → AppendsFileName room end tokens old (Ok n) left middle
+        → ParsesIncludedOrigin origin end left (Ok named) → FinishesInclude room begin end at n named middle r new → ReadsLastInclude origin room begin end tokens old r new
+    include_finished begin [] left at n named middle new r is h k l = let no = h.1 in cc
+    include_finished begin (f ∷ []) left at n named middle new r is h k l =
+        included begin f None named n middle new r h.1 (subst (λ x. ParsesIncludedOrigin origin end x (Ok named)) h.0 k) (subst (λ m. FinishesInclude room begin end m n named middle r new) is l)
+    include_finished begin (f ∷ t ∷ []) left at n named middle new r is h k l =
+        included begin f (Some t) named n middle new r h.1 (subst (λ x. ParsesIncludedOrigin origin end x (Ok named)) h.0 k) (subst (λ m. FinishesInclude room begin end m n named middle r new) is l)
+    include_finished begin (f ∷ t ∷ v ∷ ts) left at n named middle new r is h k l = let no = subst (λ x. ParsesIncludedOrigin origin end x (Ok named)) h.0 k in cc
 
     -- the file's octets don't fit
-    lacks : (f : TokenSeen) (token : Option TokenSeen) (named : Option (List (List ℕ))) (new : List ℕ) (r : RecordError) → AppendsFile room f old (Err r) new → IncludesOrigin origin token named
-        → Extends old new × ReadsInclude origin room f.at f.text token old (Err r) new
-    lacks f token named new r h k = (same_extends new h.0, inr (named, k, h.1, omega (arith, h.2)))
+    lacks : (begin : ℕ) (f : TokenSeen) (token : Option TokenSeen) (named : Option (List (List ℕ))) (new : List ℕ) (r : RecordError) → AppendsFile room f old (Err r) new → IncludesOrigin origin token named
+        → Extends old new × ReadsInclude origin room begin end f.at f.text token old (Err r) new
+    lacks begin f token named new r h k = (same_extends new h.0, inr (named, k, h.1, omega (arith, h.2)))
 
-    pub include_lacks : (tokens left : List TokenSeen) (r : RecordError) (named : Option (List (List ℕ))) (new : List ℕ) → AppendsFileName room end tokens old (Err r) left new → ParsesIncludedOrigin origin end left (Ok named)
-        → ReadsLastInclude origin room end tokens old (Err r) new
-    include_lacks [] left r named new h k = let same : r ≡ ends_early end = cc in (file_extends [] left (Err r) new h, ap Err same)
-    include_lacks (f ∷ []) left r named new h k = lacks f None named new r h.1 (subst (λ l. ParsesIncludedOrigin origin end l (Ok named)) h.0 k)
-    include_lacks (f ∷ t ∷ []) left r named new h k = lacks f (Some t) named new r h.1 (subst (λ l. ParsesIncludedOrigin origin end l (Ok named)) h.0 k)
-    include_lacks (f ∷ t ∷ v ∷ ts) left r named new h k = let no = subst (λ l. ParsesIncludedOrigin origin end l (Ok named)) h.0 k in cc
+    pub include_lacks : (begin : ℕ) (tokens left : List TokenSeen) (r : RecordError) (named : Option (List (List ℕ))) (new : List ℕ) → AppendsFileName room end tokens old (Err r) left new → ParsesIncludedOrigin origin end left (Ok named)
+        → ReadsLastInclude origin room begin end tokens old (Err r) new
+    include_lacks begin [] left r named new h k = let same : r ≡ ends_early end = cc in (file_extends [] left (Err r) new h, ap Err same)
+    include_lacks begin (f ∷ []) left r named new h k = lacks begin f None named new r h.1 (subst (λ l. ParsesIncludedOrigin origin end l (Ok named)) h.0 k)
+    include_lacks begin (f ∷ t ∷ []) left r named new h k = lacks begin f (Some t) named new r h.1 (subst (λ l. ParsesIncludedOrigin origin end l (Ok named)) h.0 k)
+    include_lacks begin (f ∷ t ∷ v ∷ ts) left r named new h k = let no = subst (λ l. ParsesIncludedOrigin origin end l (Ok named)) h.0 k in cc
 
-    pub include_refused : (tokens left : List TokenSeen) (file : Result ℕ RecordError) (r : RecordError) (new : List ℕ) → AppendsFileName room end tokens old file left new → ParsesIncludedOrigin origin end left (Err r)
-        → ReadsLastInclude origin room end tokens old (Err r) new
-    include_refused [] left file r new h k = absurd (subst (λ l. ParsesIncludedOrigin origin end l (Err r)) h.0 k)
-    include_refused (f ∷ []) left file r new h k = absurd (subst (λ l. ParsesIncludedOrigin origin end l (Err r)) h.0 k)
-    include_refused (f ∷ t ∷ []) left file r new h k =
+    pub include_refused : (begin : ℕ) (tokens left : List TokenSeen) (file : Result ℕ RecordError) (r : RecordError) (new : List ℕ) → AppendsFileName room end tokens old file left new → ParsesIncludedOrigin origin end left (Err r)
+        → ReadsLastInclude origin room begin end tokens old (Err r) new
+    include_refused begin [] left file r new h k = absurd (subst (λ l. ParsesIncludedOrigin origin end l (Err r)) h.0 k)
+    include_refused begin (f ∷ []) left file r new h k = absurd (subst (λ l. ParsesIncludedOrigin origin end l (Err r)) h.0 k)
+    include_refused begin (f ∷ t ∷ []) left file r new h k =
         (file_extends (f ∷ t ∷ []) left file new h, inl (subst (λ l. ParsesIncludedOrigin origin end l (Err r)) h.0 k))
-    include_refused (f ∷ t ∷ v ∷ ts) left file r new h k =
+    include_refused begin (f ∷ t ∷ v ∷ ts) left file r new h k =
         let e = subst (λ l. ParsesIncludedOrigin origin end l (Err r)) h.0 k in
         let same : r ≡ too_many v = cc in (file_extends (f ∷ t ∷ v ∷ ts) left file new h, ap Err same)
 

@@ -59,9 +59,9 @@ no_directive : (r : Result ℕ RecordError) → Ok Empty ≡ directive_with r �
 no_directive (Ok ttl) h = cc
 no_directive (Err r) h = cc
 
-no_record : (before : State) (at : ℕ) (w : RecordHeader) (ttl : Option RecordTtl) → record_with before at w ttl ≡ Ok Empty → ⊥
-no_record before at w None h = cc
-no_record before at w (Some ttl) h = cc
+no_record : (before : State) (at data_at end : ℕ) (w : RecordHeader) (ttl : Option RecordTtl) → record_with before at data_at end w ttl ≡ Ok Empty → ⊥
+no_record before at data_at end w None h = cc
+no_record before at data_at end w (Some ttl) h = cc
 
 something_read : (before : State) (room : Room) (blank : Bool) (end : ℕ) (tokens : List TokenSeen) (m : EntryMeaning) (old new : List ℕ) (owner : NameState) → tokens ≢ [] → EntryMeans blank end tokens m
     → ReadsMeaning before room end tokens m old (Ok Empty) owner new → ⊥

@@ -10,6 +10,7 @@ use Rattle.rdata_fields.specs.declared.record_error.RecordError.{RecordError}
 use Rattle.zone_reader.specs.EntryMeanings.{EntryMeaning, says_nothing, says_origin, says_default_ttl, says_include, says_generate, says_record, says_refused}
 use Rattle.zone_reader.specs.declared.header.RecordHeader.{RecordHeader}
 use Rattle.zone_reader.specs.declared.header.HeaderError.{HeaderError}
+use Rattle.rdata_fields.specs.Source.{next_place}
 use Rattle.zone_reader.specs.EntryReading.{ReadsDataAfterHeader, ReadsMeaning, ReadsAfterHeader, record_with}
 use Rattle.zone_reader.specs.Records.{AreSuccessiveResults, EntryResult, IsDirectiveResult, ReadsBegun, ReadsNextEntry, ReadsNextRecord, IsAfterEntry, given_next, result_of_entry, none_given}
 use Rattle.zone_reader.specs.Source.{BeginsEntry, SourceSeen, parts_after_unread, parts_after_tokens, entry_end, unread_entry_tokens}
@@ -28,19 +29,19 @@ use Rattle.zone_reader.proofs.TextParts.{closed_left}
 -- ---- a directive leaves the octets
 
 -- a result that `record_with` never has is not read of a record
-module _ (before : State) (room : Room) (at end : ℕ) (old new : List ℕ) (e : ParsedEntry) (never : (w : RecordHeader) (ttl : Option RecordTtl) → record_with before at w ttl ≡ Ok e → ⊥) where
-  not_behind : (w : RecordHeader) (r : Result (Unit {0}) RecordError) → ReadsDataAfterHeader before at w old r new (Ok e) → ⊥
-  not_behind w (Err r) h = cc
-  not_behind w (Ok u) h = never w _ (sym h.2.2)
+module _ (before : State) (room : Room) (at end : ℕ) (old new : List ℕ) (e : ParsedEntry) (never : (data_at after : ℕ) (w : RecordHeader) (ttl : Option RecordTtl) → record_with before at data_at after w ttl ≡ Ok e → ⊥) where
+  not_behind : (data_at : ℕ) (w : RecordHeader) (r : Result (Unit {0}) RecordError) → ReadsDataAfterHeader before at data_at end w old r new (Ok e) → ⊥
+  not_behind data_at w (Err r) h = cc
+  not_behind data_at w (Ok u) h = never data_at end w _ (sym h.2.2)
 
   pub not_words : (first : Result (Unit {0}) RecordError) (words : Result RecordHeader HeaderError) (left : List TokenSeen) → ReadsAfterHeader before room at end first words left old (Ok e) new → ⊥
   not_words (Err x) words left h = let no = h.0 in cc
   not_words (Ok u) (Err x) left h = let no = h.0 in cc
-  not_words (Ok u) (Ok w) left h = not_behind w h.0 h.3
+  not_words (Ok u) (Ok w) left h = not_behind (next_place left end) w h.0 h.3
 
-no_record : (before : State) (at : ℕ) (w : RecordHeader) (ttl : Option RecordTtl) → record_with before at w ttl ≡ Ok Directive → ⊥
-no_record before at w None e = cc
-no_record before at w (Some t) e = cc
+no_record : (before : State) (at data_at end : ℕ) (w : RecordHeader) (ttl : Option RecordTtl) → record_with before at data_at end w ttl ≡ Ok Directive → ⊥
+no_record before at data_at end w None e = cc
+no_record before at data_at end w (Some t) e = cc
 
 directive_is_read : (before : State) (room : Room) (end : ℕ) (tokens : List TokenSeen) (m : EntryMeaning) (old new : List ℕ) (owner : NameState) → ReadsMeaning before room end tokens m old (Ok Directive) owner new → new ≡ old
 directive_is_read before room end tokens says_nothing old new owner h = h.1

@@ -11,7 +11,6 @@ use Rattle.dns_lexer.specs.declared.pieces.Piece.TheVariants.{Word as WordAt, Qu
 use Rattle.dns_lexer.proofs.OctetsOnce.{given_once}
 use Rattle.zone_reader.specs.FirstEntry.{StopsFirst, piece_tokens}
 use Rattle.zone_reader.specs.Tape.{FitsNoTape, span_token}
-use Rattle.zone_reader.specs.declared.tape.TheConstants.{TAPE_CAPACITY}
 use Rattle.zone_reader.specs.declared.tape.TokenSpan.{TokenSpan}
 use Rattle.zone_reader.proofs.Filling.{Filling}
 use Rattle.zone_reader.proofs.TapeOnce.{alike, no_stop_first, tail_open}
@@ -66,19 +65,19 @@ module _ (octets : List ℕ) (p : Piece) (token : IsTokenPiece p) (e : EndOfEntr
       subst (λ r. length (piece_tokens octets ended (CommentAt y ∷ f)) < length (piece_tokens octets ended (r ∷ g))) same (one_longer ended f g h rest)
   one_longer ended (EndAt y ∷ f) (q ∷ g) h eq = elim h [ ]
 
-module _ (octets : List ℕ) (given now : List (Result Piece Fault)) (ended : Option ℕ) (spans : List TokenSpan) (x : Filling octets given now ended spans) (is : AreItemsOf octets given) where
+module _ (capacity : ℕ) (octets : List ℕ) (given now : List (Result Piece Fault)) (ended : Option ℕ) (spans : List TokenSpan) (x : Filling octets given now ended spans) (is : AreItemsOf octets given) where
   -- the pieces so far, and the first entry
   both : (stop : EndOfEntry) (left : List (Result Piece Fault)) (first : StopsFirst octets (Ok stop) left) → map Ok x.found ++ now ≡ map Ok first.found ++ Ok (EndAt stop) ∷ left
   both stop left first = sym x.is ∙ given_once octets given _ is first.given
 
-  pub unfilled_end : now ≡ [] → FitsNoTape octets
+  pub unfilled_end : now ≡ [] → FitsNoTape capacity octets
   unfilled_end e stop left first = absurd (none_left x.found first.found stop left x.is_open (ap (λ l. map Ok x.found ++ l) (sym e) ∙ both stop left first))
 
-  pub unfilled_fault : (f : Fault) (rest : List (Result Piece Fault)) → now ≡ Err f ∷ rest → FitsNoTape octets
+  pub unfilled_fault : (f : Fault) (rest : List (Result Piece Fault)) → now ≡ Err f ∷ rest → FitsNoTape capacity octets
   unfilled_fault f rest e stop left first =
       let same = (alike x.found first.found (Err f) (Ok stop) rest left x.is_open first.is_open (ap (λ l. map Ok x.found ++ l) (sym e) ∙ both stop left first)).1 in cc
 
-  pub unfilled_token : (p : Piece) (rest : List (Result Piece Fault)) → now ≡ Ok p ∷ rest → IsTokenPiece p → TAPE_CAPACITY ≤ length spans → FitsNoTape octets
+  pub unfilled_token : (p : Piece) (rest : List (Result Piece Fault)) → now ≡ Ok p ∷ rest → IsTokenPiece p → capacity ≤ length spans → FitsNoTape capacity octets
   unfilled_token p rest e t full stop left first =
       let longer = one_longer octets p t stop rest left None x.found first.found x.is_open (ap (λ l. map Ok x.found ++ l) (sym e) ∙ both stop left first) in
       let count : length spans ≡ length (piece_tokens octets None x.found) = sym (length-map spans (span_token octets)) ∙ ap length x.tokens in

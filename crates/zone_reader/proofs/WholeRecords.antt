@@ -1,25 +1,25 @@
 -- Records with all their parts are read as they are written.
-use Rattle.std.proofs.Common.{ℕ, ◌≡◌, ◌≤◌, ◌<◌, ◌+◌, false, List, [], ◌∷◌, ◌++◌, length, Option, Some, None, Result, Ok, Err, refl, sym, subst, ap, ◌∙◌, arith, inl, inr}
-use Rattle.std.specs.Prelude.{◌⊎◌}
+use Rattle.std.proofs.Common.{ℕ, ◌≡◌, ◌≤◌, ◌<◌, ◌+◌, false, List, [], ◌∷◌, ◌++◌, length, Option, Some, None, Result, Ok, Err, refl, subst, ap, ◌∙◌, arith, inl, inr}
 use Rattle.dns_octets.specs.Room.{Room}
 use Rattle.rdata_tokens.specs.declared.kind.DigitsKind.TheVariants.{Hex}
 use Rattle.dns_wire.specs.Wire.{wire}
 use Rattle.rdata_tokens.specs.NameSpelling.{IsOrigin}
 use Rattle.dns_lexer.specs.EntryTokens.{TokenSeen}
 use Rattle.rdata_fields.specs.Source.{next_place}
-use Rattle.rdata_fields.specs.Parsing.{SpellsField, SpellsFields}
+use Rattle.rdata_fields.specs.Parsing.{SpellsField}
 use Rattle.rdata_fields.specs.declared.field.Field.TheVariants.{Name as OfName}
 use Rattle.rdata.specs.ByType.{HasShape, ReadsType, RefusesData, RefusesGeneric, SpellsGenericData, SpellsTypeData, shape_of_code}
-use Rattle.rdata.specs.Data.{HasLength, IsDataOf, SpellsData}
-use Rattle.rdata.specs.Generic.{BeginsGeneric, ExceedsGeneric, SpellsGeneric}
-use Rattle.rdata.specs.RestKinds.{rest_form}
+use Rattle.rdata.specs.Data.{IsDataOf}
+use Rattle.rdata.specs.Generic.{ExceedsGeneric, SpellsGeneric}
 use Rattle.rdata.specs.Types.{TypeShape}
 use Rattle.rdata_fields.specs.declared.record_error.RecordError.{RecordError}
 use Rattle.rdata_values.specs.declared.classes.Class.{Class}
 use Rattle.rdata_values.specs.declared.types.RecordType.{RecordType}
 use Rattle.rdata.specs.declared.shape.Shape.{Shape}
-use Rattle.rdata.proofs.DataForms.{data_are_spelled}
-use Rattle.rdata.proofs.Joinings.{digits_exceeded, joined_once}
+use Rattle.rdata.proofs.DataErrors.{same_spelled}
+use Rattle.rdata.proofs.GenericLaws.{begins_so, generic_once}
+use Rattle.rdata.proofs.Joinings.{digits_exceeded}
+use Rattle.rdata.proofs.OneSpelling.{type_once}
 use Rattle.zone_reader.specs.EntryMeanings.{says_record}
 use Rattle.zone_reader.specs.declared.header.RecordHeader.{RecordHeader}
 use Rattle.zone_reader.proofs.EntryLaws.{entries_say_once}
@@ -36,49 +36,7 @@ use Rattle.zone_reader.proofs.FullRecords.{any_minimum, full, the_owner}
 use Rattle.zone_reader.proofs.NamesTaken.{no_name}
 use Rattle.zone_reader.proofs.PastStates.{name_alone}
 
--- ---- tokens spell data of a type in one way
-
-begins_so : (tokens : List TokenSeen) (octets : List ℕ) → SpellsGeneric tokens octets → BeginsGeneric tokens
-begins_so [] octets h = absurd h
-begins_so (mark ∷ []) octets h = absurd h
-begins_so (mark ∷ count ∷ digits) octets h = h.0
-
-generic_once : (tokens : List TokenSeen) (a b : List ℕ) → SpellsGeneric tokens a → SpellsGeneric tokens b → a ≡ b
-generic_once [] a b h k = absurd h
-generic_once (mark ∷ []) a b h k = absurd h
-generic_once (mark ∷ count ∷ digits) a b h k = joined_once Hex digits a b h.2 k.2
-
-module _ (origin : Option (List (List ℕ))) (tokens : List TokenSeen) where
-  -- all shapes of a type are spelled alike
-  same_spelled : (found : Option TypeShape) (a b : Shape) (octets : List ℕ) → HasShape found a → HasShape found b → SpellsData origin a tokens octets → SpellsData origin b tokens octets
-  same_spelled None a b octets h k own = absurd h
-  same_spelled (Some s) a b octets h k own = record {
-    first = own.first;
-    last = own.last;
-    front = own.front;
-    back = own.back;
-    tokens_are = own.tokens_are;
-    octets_are = own.octets_are;
-    fields = subst (λ fs. SpellsFields origin fs own.first own.front) (h.0 ∙ sym k.0) own.fields;
-    rest = subst (λ r. (rest_form origin r).spells own.last own.back) (h.1 ∙ sym k.1) own.rest;
-    lengths = subst (λ l. HasLength l octets) (h.2 ∙ sym k.2) own.lengths;
-  }
-
-  module _ (is : IsOrigin origin) (rtype : RecordType) where
-    abbrev OwnForm : List ℕ → Type 0
-    OwnForm octets = (BeginsGeneric tokens → ⊥) × ((shape : Shape) × HasShape (shape_of_code rtype) shape × SpellsData origin shape tokens octets)
-
-    forms_once : (a b : List ℕ) → SpellsGenericData (shape_of_code rtype) tokens a ⊎ OwnForm a → SpellsGenericData (shape_of_code rtype) tokens b ⊎ OwnForm b → a ≡ b
-    forms_once a b (inl h) (inl k) = generic_once tokens a b h.0 k.0
-    forms_once a b (inl h) (inr k) = absurd (k.0 (begins_so tokens a h.0))
-    forms_once a b (inr h) (inl k) = absurd (h.0 (begins_so tokens b k.0))
-    forms_once a b (inr h) (inr k) =
-        (data_are_spelled origin is k.1.0).once tokens a b (same_spelled (shape_of_code rtype) h.1.0 k.1.0 a h.1.1 k.1.1 h.1.2) k.1.2
-
-    type_once : (a b : List ℕ) → SpellsTypeData origin rtype tokens a → SpellsTypeData origin rtype tokens b → a ≡ b
-    type_once a b h k = forms_once a b h.1 k.1
-
--- ---- and they are not rejected if they surely fit
+-- ---- data of a type isn't rejected if it surely fits
 
 generic_exceeded : (room : Room) (tokens left : List TokenSeen) (old octets : List ℕ) → ExceedsGeneric room tokens left old → SpellsGeneric tokens octets → room.fits < length old + length octets
 generic_exceeded room [] left old octets h s = absurd h
@@ -112,17 +70,17 @@ module _ (room : Room) (at end : ℕ) (behind : List TokenSeen) (t : TokenSeen) 
     (absolute : SpellsField None OfName t (wire labels)) (known : IsOrigin (known_name before.origin)) (spelled : SpellsTypeData (known_name before.origin) w.rtype behind octets) (fits : length old + length octets ≤ room.fits)
     (result : Result ParsedEntry RecordError) where
   abbrev IsTheRecord : Type 0
-  IsTheRecord = (result ≡ Ok (Record at (Explicit ttl) class w.rtype)) × (new ≡ old ++ octets)
+  IsTheRecord = (result ≡ Ok (Record at (next_place behind end) end (Explicit ttl) class w.rtype)) × (new ≡ old ++ octets)
 
   owner_taken : (r : RecordError) → NamesOrRefuses (known_name before.origin) t (Err r) → ⊥
   owner_taken r h = no_name (known_name before.origin) (t ∷ []) r.kind h.1 (wire labels) (absolute.0, name_alone (known_name before.origin) t.text (wire labels) absolute.1)
 
-  data_read : (r : Result (Unit {0}) RecordError) (left : List TokenSeen) → ReadsType (known_name before.origin) room w.rtype end behind old r left new → ReadsDataAfterHeader before at w old r new result → IsTheRecord
+  data_read : (r : Result (Unit {0}) RecordError) (left : List TokenSeen) → ReadsType (known_name before.origin) room w.rtype end behind old r left new → ReadsDataAfterHeader before at (next_place behind end) end w old r new result → IsTheRecord
   data_read (Err r) left h k = absurd (type_taken (known_name before.origin) room w.rtype end behind octets old fits h.0 left new spelled h.2)
   data_read (Ok u) left h k =
       let gained = h.1 in
-      let same : gained.0 ≡ octets = type_once (known_name before.origin) behind known w.rtype gained.0 octets gained.1 spelled in (
-        k.2.2 ∙ ap (record_with before at w) (any_minimum room at end behind t w ttl class labels before old new own said absolute w.ttl k.2.0 own) ∙ full room at end behind t w ttl class labels before old new own said absolute,
+      let same : gained.0 ≡ octets = type_once (known_name before.origin) behind w.rtype gained.0 octets gained.1 spelled in (
+        k.2.2 ∙ ap (record_with before at (next_place behind end) end w) (any_minimum room at end behind t w ttl class labels before old new own said absolute w.ttl k.2.0 own) ∙ full room at end behind t w ttl class labels before old new own said absolute,
         gained.2 ∙ ap (λ o. old ++ o) same,
       )
 

@@ -68,9 +68,9 @@ origin_octets None = []
 origin_octets (Some labels) = wire labels
 
 -- a file's octets are appended, and after them those of its origin, if it has one; or the origin is rejected; or the octets don't surely fit
-abbrev pub ReadsInclude : Option (List (List ℕ)) → Room → ℕ → List ℕ → Option TokenSeen → List ℕ → Result ParsedEntry RecordError → List ℕ → Type 0
-ReadsInclude origin room at file token old (Ok e) new = (named : Option (List (List ℕ))) × (e ≡ Include (length file) (is_some named)) × IncludesOrigin origin token named × (new ≡ old ++ (file ++ origin_octets named))
-ReadsInclude origin room at file token old (Err r) new =
+abbrev pub ReadsInclude : Option (List (List ℕ)) → Room → ℕ → ℕ → ℕ → List ℕ → Option TokenSeen → List ℕ → Result ParsedEntry RecordError → List ℕ → Type 0
+ReadsInclude origin room begin end at file token old (Ok e) new = (named : Option (List (List ℕ))) × (e ≡ Include begin end (length file) (is_some named)) × IncludesOrigin origin token named × (new ≡ old ++ (file ++ origin_octets named))
+ReadsInclude origin room begin end at file token old (Err r) new =
     RefusesOrigin origin token r
     ⊎ ((named : Option (List (List ℕ))) × IncludesOrigin origin token named × (r ≡ error_at at ShortBuf) × (room.fits < length old + (length file + length (origin_octets named))))
 
@@ -94,19 +94,19 @@ IsMinimum rtype octets minimum =
     ((rtype ≡ Rtype.soa) × ((seconds : Option ℕ) × EndsInNumber octets seconds × (minimum ≡ option_map ttl_of_seconds seconds))) ⊎ ((rtype ≢ Rtype.soa) × (minimum ≡ None))
 
 -- a record, whose class is its own or the state's; or the error of a record without a TTL
-abbrev pub record_with : State → ℕ → RecordHeader → Option RecordTtl → Result ParsedEntry RecordError
-record_with before at w None = Err (error_at at NoTtl)
-record_with before at w (Some ttl) = Ok (Record at ttl (unwrap_or w.class before.class) w.rtype)
+abbrev pub record_with : State → ℕ → ℕ → ℕ → RecordHeader → Option RecordTtl → Result ParsedEntry RecordError
+record_with before at data_at end w None = Err (error_at at NoTtl)
+record_with before at data_at end w (Some ttl) = Ok (Record at data_at end ttl (unwrap_or w.class before.class) w.rtype)
 
 -- what comes after the TTL, class and type: the data, and then the record's TTL
-abbrev pub ReadsDataAfterHeader : State → ℕ → RecordHeader → List ℕ → Result (Unit {0}) RecordError → List ℕ → Result ParsedEntry RecordError → Type 0
-ReadsDataAfterHeader before at w old (Err e) new result = result ≡ Err e
-ReadsDataAfterHeader before at w old (Ok _) new result =
-    (octets : List ℕ) × (new ≡ old ++ octets) × ((minimum : Option ℕ) × IsMinimum w.rtype octets minimum × (result ≡ record_with before at w (chosen_ttl w.ttl before.default_ttl before.last_ttl minimum)))
+abbrev pub ReadsDataAfterHeader : State → ℕ → ℕ → ℕ → RecordHeader → List ℕ → Result (Unit {0}) RecordError → List ℕ → Result ParsedEntry RecordError → Type 0
+ReadsDataAfterHeader before at data_at end w old (Err e) new result = result ≡ Err e
+ReadsDataAfterHeader before at data_at end w old (Ok _) new result =
+    (octets : List ℕ) × (new ≡ old ++ octets) × ((minimum : Option ℕ) × IsMinimum w.rtype octets minimum × (result ≡ record_with before at data_at end w (chosen_ttl w.ttl before.default_ttl before.last_ttl minimum)))
 
 abbrev pub ReadsRecordData : State → Room → ℕ → ℕ → RecordHeader → List TokenSeen → List ℕ → Result ParsedEntry RecordError → List ℕ → Type 0
 ReadsRecordData before room at end w tokens old result new =
-    (r : Result (Unit {0}) RecordError) × (left : List TokenSeen) × ReadsType (known_name before.origin) room w.rtype end tokens old r left new × ReadsDataAfterHeader before at w old r new result
+    (r : Result (Unit {0}) RecordError) × (left : List TokenSeen) × ReadsType (known_name before.origin) room w.rtype end tokens old r left new × ReadsDataAfterHeader before at (next_place tokens end) end w old r new result
 
 -- what comes after the owner: the error is the first one of owner, type and data
 abbrev pub ReadsAfterHeader : State → Room → ℕ → ℕ → Result (Unit {0}) RecordError → Result RecordHeader HeaderError → List TokenSeen → List ℕ → Result ParsedEntry RecordError → List ℕ → Type 0
@@ -141,7 +141,7 @@ minimum_of_ttl (Last ttl) = []
 minimum_of_ttl (Minimum ttl) = NewDefaultTtl ttl ∷ []
 
 abbrev pub minimum_of_record : Result ParsedEntry RecordError → List Declared
-minimum_of_record (Ok (Record at ttl class rtype)) = minimum_of_ttl ttl
+minimum_of_record (Ok (Record at data_at end ttl class rtype)) = minimum_of_ttl ttl
 minimum_of_record _ = []
 
 abbrev pub declared_by_record : Option TokenSeen → Result RecordHeader HeaderError → Result ParsedEntry RecordError → List Declared
@@ -173,8 +173,8 @@ abbrev pub ReadsMeaning : State → Room → ℕ → List TokenSeen → EntryMea
 ReadsMeaning before room end tokens says_nothing old result owner new = (result ≡ Ok Empty) × (new ≡ old)
 ReadsMeaning before room end tokens (says_origin t) old result owner new = ReadsOrigin (known_name before.origin) t result × (new ≡ old)
 ReadsMeaning before room end tokens (says_default_ttl r) old result owner new = (result ≡ directive_with r) × (new ≡ old)
-ReadsMeaning before room end tokens (says_include file token) old result owner new = ReadsInclude (known_name before.origin) room (next_place (drop 1 tokens) end) file token old result new
-ReadsMeaning before room end tokens says_generate old result owner new = (result ≡ Ok (Generate (next_place tokens end))) × (new ≡ old)
+ReadsMeaning before room end tokens (says_include file token) old result owner new = ReadsInclude (known_name before.origin) room (next_place tokens end) end (next_place (drop 1 tokens) end) file token old result new
+ReadsMeaning before room end tokens says_generate old result owner new = (result ≡ Ok (Generate (next_place tokens end) end)) × (new ≡ old)
 ReadsMeaning before room end tokens (says_record token words left) old result owner new = ReadsRecord before room (next_place tokens end) end token words left old result owner new
 ReadsMeaning before room end tokens (says_refused e) old result owner new = result ≡ Err e
 

@@ -77,23 +77,23 @@ AppendsOrigin room at named old (Ok has) new = (has ≡ is_some named) × (new �
 AppendsOrigin room at named old (Err r) new = (new ≡ old) × (r ≡ error_at at ShortBuf) × (room.fits < length old + length (origin_octets named))
 
 -- a file of a number of octets, after which its origin is appended, or does not surely fit
-abbrev pub FinishesInclude : Room → ℕ → ℕ → Option (List (List ℕ)) → List ℕ → Result ParsedEntry RecordError → List ℕ → Type 0
-FinishesInclude room at n named old (Ok e) new = (e ≡ Include n (is_some named)) × (new ≡ old ++ origin_octets named)
-FinishesInclude room at n named old (Err r) new = (new ≡ old) × (r ≡ error_at at ShortBuf) × (room.fits < length old + length (origin_octets named))
+abbrev pub FinishesInclude : Room → ℕ → ℕ → ℕ → ℕ → Option (List (List ℕ)) → List ℕ → Result ParsedEntry RecordError → List ℕ → Type 0
+FinishesInclude room begin end at n named old (Ok e) new = (e ≡ Include begin end n (is_some named)) × (new ≡ old ++ origin_octets named)
+FinishesInclude room begin end at n named old (Err r) new = (new ≡ old) × (r ≡ error_at at ShortBuf) × (room.fits < length old + length (origin_octets named))
 
-abbrev pub ReadsLastInclude : Option (List (List ℕ)) → Room → ℕ → List TokenSeen → List ℕ → Result ParsedEntry RecordError → List ℕ → Type 0
-ReadsLastInclude origin room end [] old r new = Extends old new × (r ≡ Err (ends_early end))
-ReadsLastInclude origin room end (file ∷ []) old r new = Extends old new × ReadsInclude origin room file.at file.text None old r new
-ReadsLastInclude origin room end (file ∷ t ∷ []) old r new = Extends old new × ReadsInclude origin room file.at file.text (Some t) old r new
-ReadsLastInclude origin room end (file ∷ t ∷ u ∷ ts) old r new = Extends old new × (r ≡ Err (too_many u))
+abbrev pub ReadsLastInclude : Option (List (List ℕ)) → Room → ℕ → ℕ → List TokenSeen → List ℕ → Result ParsedEntry RecordError → List ℕ → Type 0
+ReadsLastInclude origin room begin end [] old r new = Extends old new × (r ≡ Err (ends_early end))
+ReadsLastInclude origin room begin end (file ∷ []) old r new = Extends old new × ReadsInclude origin room begin end file.at file.text None old r new
+ReadsLastInclude origin room begin end (file ∷ t ∷ []) old r new = Extends old new × ReadsInclude origin room begin end file.at file.text (Some t) old r new
+ReadsLastInclude origin room begin end (file ∷ t ∷ u ∷ ts) old r new = Extends old new × (r ≡ Err (too_many u))
 
 -- the directive, whose word is at an offset
 abbrev pub ReadsDirective : Directive → Room → ℕ → ℕ → List TokenSeen → State → List ℕ → Result ParsedEntry RecordError → State → List ℕ → Type 0
 ReadsDirective Origin room at end tokens before old r after new =
     ReadsLastOrigin (known_name before.origin) end tokens r × Updates (NewOrigin (only_token tokens) ∷ []) before after × (new ≡ old)
 ReadsDirective Ttl room at end tokens before old r after new = ReadsDefaultTtl end tokens before r after × (new ≡ old)
-ReadsDirective OfInclude room at end tokens before old r after new = ReadsLastInclude (known_name before.origin) room end tokens old r new × (after ≡ before)
-ReadsDirective OfGenerate room at end tokens before old r after new = (r ≡ Ok (Generate at)) × (new ≡ old) × (after ≡ before)
+ReadsDirective OfInclude room at end tokens before old r after new = ReadsLastInclude (known_name before.origin) room at end tokens old r new × (after ≡ before)
+ReadsDirective OfGenerate room at end tokens before old r after new = (r ≡ Ok (Generate at end)) × (new ≡ old) × (after ≡ before)
 
 -- the token of the owner, and the tokens after it
 abbrev pub owner_token : Bool → List TokenSeen → Option TokenSeen

@@ -29,5 +29,5 @@ pub record IsIncluded (file : ℕ) (has_origin : Bool) (octets : List ℕ) : Typ
 
 -- A call that returns a file to include appends the octets of its name, and after them those of its origin, if the entry has one.
 abbrev pub FilesAreAppended : Type 0
-FilesAreAppended = (room : Room) (before after : RecordReader) (old new : List ℕ) (file : ℕ) (has_origin : Bool) → ReadsNextEntry room before old (Some (Ok (Include file has_origin))) after new
+FilesAreAppended = (room : Room) (before after : RecordReader) (old new : List ℕ) (at end file : ℕ) (has_origin : Bool) → ReadsNextEntry room before old (Some (Ok (Include at end file has_origin))) after new
     → (octets : List ℕ) × (new ≡ old ++ octets) × IsIncluded file has_origin octets

@@ -26,7 +26,7 @@ use Rattle.zone_reader.specs.declared.ttl.RecordTtl.TheVariants.{Explicit}
 abbrev pub FullRecordsAreIndependent : Type 0
 FullRecordsAreIndependent = (room : Room) (end : ℕ) (tokens left : List TokenSeen) (t : TokenSeen) (w : RecordHeader) (ttl : ℕ) (class : Class) (labels : List (List ℕ)) (before after : State) (old new : List ℕ) (e : ParsedEntry)
     → EntryMeans false end tokens (says_record (Some t) (Ok w) left) → w.ttl ≡ Some ttl → w.class ≡ Some class → SpellsField None OfName t (wire labels) → ReadsZoneEntry room false end tokens before old (Ok e) after new
-    → (e ≡ Record (next_place tokens end) (Explicit ttl) class w.rtype) × (after.owner ≡ Name labels)
+    → (e ≡ Record (next_place tokens end) (next_place left end) end (Explicit ttl) class w.rtype) × (after.owner ≡ Name labels)
 
 -- The tokens of a record with all its parts: an absolute owner, a TTL, a class, a type, and data of that type whatever the origin is.
 pub record IsWholeRecord (end : ℕ) (tokens : List TokenSeen) (labels : List (List ℕ)) (ttl : ℕ) (class : Class) (rtype : RecordType) (octets : List ℕ) : Type 0 where
@@ -38,6 +38,6 @@ pub record IsWholeRecord (end : ℕ) (tokens : List TokenSeen) (labels : List (L
 
 -- From every state it is read as it is written, and not rejected, if the octets of its data surely fit.
 abbrev pub WholeRecordsAreIndependent : Type 0
-WholeRecordsAreIndependent = (room : Room) (end : ℕ) (tokens : List TokenSeen) (labels : List (List ℕ)) (ttl : ℕ) (class : Class) (rtype : RecordType) (octets : List ℕ) → IsWholeRecord end tokens labels ttl class rtype octets
+WholeRecordsAreIndependent = (room : Room) (end : ℕ) (tokens : List TokenSeen) (labels : List (List ℕ)) (ttl : ℕ) (class : Class) (rtype : RecordType) (octets : List ℕ) → (whole : IsWholeRecord end tokens labels ttl class rtype octets)
     → (before after : State) (old new : List ℕ) (result : Result ParsedEntry RecordError) → IsOrigin (known_name before.origin) → length old + length octets ≤ room.fits → ReadsZoneEntry room false end tokens before old result after new
-    → (result ≡ Ok (Record (next_place tokens end) (Explicit ttl) class rtype)) × (after.owner ≡ Name labels) × (new ≡ old ++ octets)
+    → (result ≡ Ok (Record (next_place tokens end) (next_place whole.behind end) end (Explicit ttl) class rtype)) × (after.owner ≡ Name labels) × (new ≡ old ++ octets)

@@ -31,14 +31,14 @@ no_minimum_row : IsMinimum Rtype.a (192 ∷ 0 ∷ 2 ∷ 1 ∷ []) None
 no_minimum_row = inr (λ e. omega (arith, e), refl)
 
 -- the class of a record without one is that where reading began
-class_row : record_with (nothing_declared 1) 8 a_record (Some (Explicit 60)) ≡ Ok (Record 8 (Explicit 60) 1 Rtype.a)
+class_row : record_with (nothing_declared 1) 8 12 21 a_record (Some (Explicit 60)) ≡ Ok (Record 8 12 21 (Explicit 60) 1 Rtype.a)
 class_row = refl
 
-own_class_row : record_with (nothing_declared 1) 8 (record { ttl = None; class = Some 3; rtype = Rtype.txt }) (Some (Explicit 60)) ≡ Ok (Record 8 (Explicit 60) 3 Rtype.txt)
+own_class_row : record_with (nothing_declared 1) 8 20 23 (record { ttl = None; class = Some 3; rtype = Rtype.txt }) (Some (Explicit 60)) ≡ Ok (Record 8 20 23 (Explicit 60) 3 Rtype.txt)
 own_class_row = refl
 
 -- `w A 192.0.2.1` if no TTL is known
-no_ttl_row : record_with (nothing_declared 1) 0 a_record None ≡ Err (error_at 0 NoTtl)
+no_ttl_row : record_with (nothing_declared 1) 0 4 13 a_record None ≡ Err (error_at 0 NoTtl)
 no_ttl_row = refl
 
 -- ` A 192.0.2.1` if no owner is known
@@ -51,7 +51,7 @@ refused_says_row : declared_by_record (Some owner) (Err (record { error = error_
 refused_says_row = refl
 
 -- an SOA that begins with a blank, and whose TTL is its minimum
-minimum_says_row : declared_by_record None (Ok (record { ttl = None; class = None; rtype = Rtype.soa })) (Ok (Record 1 (Minimum 900) 1 Rtype.soa)) ≡ NewDefaultTtl 900 ∷ []
+minimum_says_row : declared_by_record None (Ok (record { ttl = None; class = None; rtype = Rtype.soa })) (Ok (Record 1 5 70 (Minimum 900) 1 Rtype.soa)) ≡ NewDefaultTtl 900 ∷ []
 minimum_says_row = refl
 
 -- `$ORIGIN a b`, `$TTL 1 2` and `$FOO`

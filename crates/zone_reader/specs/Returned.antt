@@ -21,6 +21,6 @@ pub record IsRecordOfEntry (labels : List (List ℕ)) (ttl : RecordTtl) (class :
 
 -- the record has the owner that the state knows, and is returned if the state knows one; nothing else is returned
 abbrev pub ReturnsRecord : State → ParsedEntry → List ℕ → Option RecordRef → Type 0
-ReturnsRecord state (Record at ttl class rtype) octets given =
+ReturnsRecord state (Record at data_at end ttl class rtype) octets given =
     MatchOption given (known_name state.owner ≡ None) (λ r. (labels : List (List ℕ)) × (state.owner ≡ Name labels) × IsRecordOfEntry labels ttl class rtype octets r)
 ReturnsRecord state _ octets given = IfSome given (λ r. ⊥)

@@ -10,7 +10,6 @@ use Rattle.dns_lexer.specs.declared.pieces.Piece.{Piece}
 use Rattle.dns_lexer.specs.declared.pieces.Span.{Span}
 use Rattle.dns_lexer.specs.declared.runs.OctetClass.TheVariants.{Blank, Word}
 use Rattle.dns_symbol.specs.Characters.{line_feed}
-use Rattle.zone_reader.specs.declared.tape.TheConstants.{TAPE_CAPACITY}
 use Rattle.zone_reader.specs.declared.tape.TokenSpan.{TokenSpan}
 use Rattle.zone_reader.specs.FirstEntry.{StopsFirst, piece_tokens, stop_offset}
 
@@ -35,9 +34,9 @@ pub record FillsWith (octets : List ℕ) (spans : List TokenSpan) (end : ℕ) : 
 abbrev pub FillsLine : List ℕ → List TokenSpan → ℕ → Type 0
 FillsLine octets spans end = (f : FillsWith octets spans end) × (0 < length f.left)
 
--- if the first entry of the octets ends at all, it has more tokens than a tape holds
-abbrev pub FitsNoTape : List ℕ → Type 0
-FitsNoTape octets = (stop : EndOfEntry) (left : List (Result Piece Fault)) (first : StopsFirst octets (Ok stop) left) → TAPE_CAPACITY < length (piece_tokens octets None first.found)
+-- if the first entry of the octets ends at all, it has more tokens than a tape of this capacity holds
+abbrev pub FitsNoTape : ℕ → List ℕ → Type 0
+FitsNoTape capacity octets = (stop : EndOfEntry) (left : List (Result Piece Fault)) (first : StopsFirst octets (Ok stop) left) → capacity < length (piece_tokens octets None first.found)
 
 -- the octets before a line feed are those of words, without escapes and without !#$%&', and blanks
 pub record IsPlainLine (octets : List ℕ) (feed : ℕ) : Type 0 where
@@ -58,10 +57,10 @@ word_span p ended = record { offset = p.start; start = p.start; end = p.end; is_
 abbrev pub quote_span : Span → Option ℕ → TokenSpan
 quote_span p ended = record { offset = p.start; start = p.start + 1; end = p.end - 1; is_quoted = true; is_adjacent = ends_at ended p.start }
 
--- a span is appended, or the tape is full
-abbrev pub PushesSpan : List TokenSpan → TokenSpan → Bool → List TokenSpan → Type 0
-PushesSpan old s true new = new ≡ old ++ s ∷ []
-PushesSpan old s false new = (TAPE_CAPACITY ≤ length old) × (new ≡ old)
+-- a span is appended, or the tape of this capacity is full
+abbrev pub PushesSpan : ℕ → List TokenSpan → TokenSpan → Bool → List TokenSpan → Type 0
+PushesSpan capacity old s true new = new ≡ old ++ s ∷ []
+PushesSpan capacity old s false new = (capacity ≤ length old) × (new ≡ old)
 
 -- ---- laws
 

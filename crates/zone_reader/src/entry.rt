@@ -7,6 +7,7 @@ ghost use Rattle.zone_reader.specs.EntryReading.{EndsInNumber, IsMinimum, ReadsZ
 ghost use Rattle.zone_reader.specs.EntrySteps.{AppendsOrigin, FinishesInclude, AppendsFileName, ParsesNextName, ReadsDefaultTtl, ReadsDirective, ReadsLastInclude, ReadsLastOrigin, ReadsRecordTokens, ParsesIncludedOrigin, ParsesLastName, tokens_after_owner, only_token, own_or_last, owner_token};
 ghost use Rattle.zone_reader.specs.Learning.{Updates, chosen_ttl};
 ghost use Rattle.zone_reader.specs.Past.{NewOrigin, known_name};
+ghost use Rattle.zone_reader.specs.declared.entry.ParsedEntry.TheVariants.{Generate};
 
 use crate::known::{NameBuffer, NameState};
 use crate::state::{State, parse_name, parse_name_into};
@@ -21,7 +22,8 @@ use rdata_fields::{RecordError, TokenSource};
 use rdata_values::{Class, ErrorKind, RecordType};
 
 /// The result of reading an entry. Offsets count octets from the start of the text that is read: a
-/// zone file, or the text of a generated entry.
+/// zone file, or the text of a generated entry. The end of an entry is that of its tokens, by their
+/// source ([`TokenSource::place`]).
 #[derive(Clone, Copy)]
 pub enum ParsedEntry {
     /// The entry has no tokens.
@@ -33,23 +35,33 @@ pub enum ParsedEntry {
     /// file is appended after it, in wire format.
     /// [`include_parts`] splits the two.
     Include {
+        /// Offset of the word `$INCLUDE`.
+        at: usize,
+        /// Offset of the entry's end.
+        end: usize,
         /// Length of the file name, in octets.
         file_name_len: usize,
         /// Whether the entry has an origin for the included file.
         has_origin: bool,
     },
-    /// The entry is `$GENERATE`. The tokens after that word are not read, and the state and the
+    /// The entry is `$GENERATE`. The tokens after that word are skipped, and the state and the
     /// target are unchanged. The caller parses the directive, and reads the entry that it generates
     /// for each number of its range with [`read_text_entry`](crate::read_text_entry).
     Generate {
         /// Offset of the word `$GENERATE`.
         at: usize,
+        /// Offset of the entry's end.
+        end: usize,
     },
     /// The entry is a record. Its owner is [`State::owner`], and its RDATA is appended to the target
     /// in wire format.
     Record {
         /// Offset of the first token of the record.
         at: usize,
+        /// Offset of the first token of the RDATA; without tokens, that of the entry's end.
+        data_at: usize,
+        /// Offset of the entry's end.
+        end: usize,
         ttl: RecordTtl,
         class: Class,
         rtype: RecordType,
@@ -194,18 +206,34 @@ fn append_origin<B: OctetsBuilder>(
     }
 }
 
-/// Appends the origin of an `$INCLUDE` after its file name, and returns the entry. `at` is the offset of
-/// an error: that of the file name.
+/// Skips the tokens that are left of an entry, and returns the offset of its end.
+#[inline(always)]
+fn skip_tokens<S: TokenSource>(source: &mut S) -> usize
+    ensures at { result ≡ (S.end source.old).at }
+    ensures end { S.end source.new ≡ S.end source.old }
+{
+    'tokens: while source.current().is_some() {
+        source.advance();
+    }
+    source.place()
+}
+
+/// Appends the origin of an `$INCLUDE` after its file name, and returns the entry, which begins and ends
+/// at these offsets. `at` is the offset of an error: that of the file name.
 fn finish_include<B: OctetsBuilder>(
+    begin: usize,
+    end: usize,
     at: usize,
     file_name_len: usize,
     origin: &Option<NameBuffer>,
     target: &mut B,
 ) -> Result<ParsedEntry, RecordError>
-    ensures { FinishesInclude B.room at file_name_len origin.now (B.octets target.old) result (B.octets target.new) }
+    ensures { FinishesInclude B.room begin end at file_name_len origin.now (B.octets target.old) result (B.octets target.new) }
 {
     match append_origin(at, origin, target) {
         Ok(has_origin) => Ok(ParsedEntry::Include {
+            at: begin,
+            end,
             file_name_len,
             has_origin,
         }),
@@ -215,26 +243,40 @@ fn finish_include<B: OctetsBuilder>(
 
 /// Reads the arguments of `$INCLUDE`. If there are several errors, the first of these is returned: a
 /// token after the origin; an invalid origin; no room in `target` for the file name or the origin.
+/// `begin` is the offset of the directive's first token.
 fn read_include<S: TokenSource, B: OctetsBuilder>(
+    begin: usize,
     state: &State,
     source: &mut S,
     target: &mut B,
 ) -> Result<ParsedEntry, RecordError>
-    ensures reads { ReadsLastInclude (known_name state.now.origin) B.room (S.end source.old).at (S.left source.old) (B.octets target.old) result (B.octets target.new) }
+    ensures reads { ReadsLastInclude (known_name state.now.origin) B.room begin (S.end source.old).at (S.left source.old) (B.octets target.old) result (B.octets target.new) }
     ensures end { S.end source.new ≡ S.end source.old }
 {
     let at = source.place();
     let file_name_len = append_file_name(source, target);
     match parse_included_origin(state.origin.name(), source) {
         Ok(origin) => match file_name_len {
-            Ok(file_name_len) => finish_include(at, file_name_len, &origin, target),
+            Ok(file_name_len) => {
+                let end = skip_tokens(source);
+                finish_include(begin, end, at, file_name_len, &origin, target)
+            }
             Err(error) => Err(error),
         },
         Err(error) => Err(error),
     }
 }
 
-/// Reads the arguments of a directive, but not those of `$GENERATE`. `at` is the offset of the
+/// Skips the arguments of `$GENERATE`. `at` is the offset of the directive's first token.
+fn read_generate<S: TokenSource>(at: usize, source: &mut S) -> ParsedEntry
+    ensures reads { result ≡ Generate at (S.end source.old).at }
+    ensures end { S.end source.new ≡ S.end source.old }
+{
+    let end = skip_tokens(source);
+    ParsedEntry::Generate { at, end }
+}
+
+/// Reads the arguments of a directive, and skips those of `$GENERATE`. `at` is the offset of the
 /// directive's first token.
 ///
 /// Not inlined, so that records are read without the stack space of the names here.
@@ -252,8 +294,8 @@ fn read_directive<S: TokenSource, B: OctetsBuilder>(
     match directive {
         Directive::Origin => read_origin(state, source),
         Directive::Ttl => read_default_ttl(state, source),
-        Directive::Include => read_include(state, source, target),
-        Directive::Generate => Ok(ParsedEntry::Generate { at }),
+        Directive::Include => read_include(at, state, source, target),
+        Directive::Generate => Ok(read_generate(at, source)),
     }
 }
 
@@ -368,10 +410,12 @@ fn minimum_of(rtype: RecordType, octets: &[u8]) -> Option<u32>
 fn finish_record(
     state: &mut State,
     at: usize,
+    data_at: usize,
+    end: usize,
     header: RecordHeader,
     minimum: Option<u32>,
 ) -> Result<ParsedEntry, RecordError>
-    ensures record { result ≡ record_with state.old at header (chosen_ttl header.ttl state.old.default_ttl state.old.last_ttl minimum) }
+    ensures record { result ≡ record_with state.old at data_at end header (chosen_ttl header.ttl state.old.default_ttl state.old.last_ttl minimum) }
     ensures owner { state.new.owner ≡ state.old.owner }
     ensures learns { Updates (minimum_of_record result) state.old state.new }
 {
@@ -383,6 +427,8 @@ fn finish_record(
     store_minimum(state, ttl);
     Ok(ParsedEntry::Record {
         at,
+        data_at,
+        end,
         ttl,
         class,
         rtype,
@@ -403,11 +449,13 @@ fn read_record_data<S: TokenSource, B: OctetsBuilder + AsOctetsMut>(
     ensures learns { Updates (minimum_of_record result) state.old state.new }
     ensures end { S.end source.new ≡ S.end source.old }
 {
+    let data_at = source.place();
     let old_len = target.as_slice().len();
     match read_rdata(header.rtype, state.origin.name(), source, target) {
         Ok(()) => {
             let minimum = minimum_of(header.rtype, &target.as_slice()[old_len..]);
-            finish_record(state, at, header, minimum)
+            let end = skip_tokens(source);
+            finish_record(state, at, data_at, end, header, minimum)
         }
         Err(error) => Err(error),
     }

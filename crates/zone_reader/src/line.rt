@@ -6,12 +6,17 @@ ghost use Rattle.zone_reader.specs.Line.{ReadsLine, line_seen};
 
 use crate::entry::{ParsedEntry, read_entry};
 use crate::state::State;
-use crate::{Tape, TokenSpan, fill_line};
+use crate::{TokenSpan, fill_line};
+use arrayvec::ArrayVec;
 use dns_lexer::cursor_state::CursorState;
 use dns_lexer::entry_tokens::EntryToken;
 use dns_octets::{AsOctetsMut, OctetsBuilder};
 use rdata_fields::{RecordError, TokenSource};
 use std::marker::Model;
+
+/// Number of tokens of an entry that [`read_line`] reads, enough for a signature of RSA with 2,048 bits
+/// in several words. Their spans are filled with zeros at each call.
+const LINE_CAPACITY: usize = 24;
 
 /// The result of reading an entry that ends with its line.
 #[derive(Clone, Copy)]
@@ -114,9 +119,9 @@ fn octets_from(octets: &[u8], at: usize) -> &[u8]
 /// `at` is the offset of the start of the text, or that of a reader of it
 /// ([`RecordReader::place`](crate::RecordReader::place)). The octets of a record's data are appended.
 ///
-/// Returns `None`, and changes nothing, for any other entry, for a blank line, for one with more
-/// tokens than a [`Tape`] holds, and if [`fill_line`] doesn't fill the tape for another reason. Then
-/// a `RecordReader` reads it.
+/// Returns `None`, and changes nothing, for any other entry, for a blank line, for one with more than
+/// 24 tokens, and if [`fill_line`] doesn't fill a tape of that capacity for another reason. Then a
+/// `RecordReader` reads it.
 pub fn read_line<B: OctetsBuilder + AsOctetsMut>(
     octets: &[u8],
     at: usize,
@@ -129,7 +134,7 @@ pub fn read_line<B: OctetsBuilder + AsOctetsMut>(
     ensures target { result ≡ None → B.octets target.new ≡ B.octets target.old }
 {
     let rest = octets_from(octets, at);
-    let mut tape = Tape::new();
+    let mut tape: ArrayVec<TokenSpan, LINE_CAPACITY> = ArrayVec::new();
     let count = fill_line(rest, &mut tape)?;
     if tape.is_empty() {
         return None;

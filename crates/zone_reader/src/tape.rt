@@ -75,8 +75,8 @@ fn quote_span(quote: Span, ended: Option<usize>) -> TokenSpan
 
 /// Appends a span and returns true; or returns false if the tape is full.
 #[inline(always)]
-fn push(tape: &mut Tape, span: TokenSpan) -> bool
-    ensures { PushesSpan tape.old.items span result tape.new.items }
+fn push<const N: usize>(tape: &mut ArrayVec<TokenSpan, N>, span: TokenSpan) -> bool
+    ensures { PushesSpan N tape.old.items span result tape.new.items }
 {
     if tape.is_full() {
         return false;
@@ -93,7 +93,7 @@ fn push(tape: &mut Tape, span: TokenSpan) -> bool
 /// unspecified.
 pub fn fill(octets: &[u8], tape: &mut Tape) -> Option<usize>
     ensures some { IfSome result (FillsWith octets.now tape.new.items) }
-    ensures none { result ≡ None → FitsNoTape octets.now }
+    ensures none { result ≡ None → FitsNoTape TAPE_CAPACITY octets.now }
 {
     tape.clear();
     let mut ended = None;
@@ -125,11 +125,12 @@ pub fn fill(octets: &[u8], tape: &mut Tape) -> Option<usize>
 ///
 /// Returns `None` for any other entry, and also if a word or a quoted string has an escape or an octet
 /// below the space, or a word has one of ``!#$%&'``. Then [`fill`] may fill it. A line of at most
-/// [`TAPE_CAPACITY`] words without such octets, with spaces, tabs and a line feed, is always filled.
-/// The tape's old contents are dropped; after `None` its contents are unspecified.
-pub fn fill_line(octets: &[u8], tape: &mut Tape) -> Option<usize>
+/// `N` words without such octets, with spaces, tabs and a line feed, is always filled. `N` is the
+/// capacity of the tape: that of a [`Tape`], or less. The tape's old contents are dropped; after
+/// `None` its contents are unspecified.
+pub fn fill_line<const N: usize>(octets: &[u8], tape: &mut ArrayVec<TokenSpan, N>) -> Option<usize>
     ensures some { IfSome result (FillsLine octets.now tape.new.items) }
-    ensures none { result ≡ None → FitsNoTape octets.now ⊎ LacksPlainLine octets.now }
+    ensures none { result ≡ None → FitsNoTape N octets.now ⊎ LacksPlainLine octets.now }
 {
     tape.clear();
     let mut ended = None;

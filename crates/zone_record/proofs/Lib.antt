@@ -7,6 +7,7 @@ pub mod LoweredNames
 pub mod NameOrders
 pub mod NameWalks
 pub mod Orders
+pub mod OrderTests
 pub mod Rows
 pub mod UntextedNames
 pub mod AnyOrders

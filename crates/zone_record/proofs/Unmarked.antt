@@ -1,6 +1,6 @@
 -- No RDATA prints with the mark of the generic form at its start, except in that form.
 use Rattle.std.proofs.Common.{ℕ, zero, suc, Bool, true, false, true≢false, ◌≡◌, ◌<◌, ◌≤◌, ◌^◌, ◌==◌, ◌||◌, ◌/◌, ◌+◌, Some, None, List, [], ◌∷◌, ◌++◌, length, take, drop, map, refl, sym, ap, subst, ◌∙◌, arith, inl, inr, get_or, append_assoc, decimal}
-use Rattle.std.specs.Prelude.{codes, ◌&&◌, not, find, if◌then◌else◌, All}
+use Rattle.std.specs.Prelude.{codes, ◌&&◌, not, find, if◌then◌else◌, All, slice_index}
 use Rattle.std.specs.Int.{from_be_bytes, w16}
 use Rattle.std.specs.List.{flat_map}
 use Rattle.std.specs.Net.Addr.{octets_of, segments_of}
@@ -36,6 +36,8 @@ use Rattle.dns_wire.specs.Printed.{dotted_by}
 use Rattle.dns_wire.specs.ZoneText.{zone_label, zone_symbol}
 use Rattle.rdata.specs.Digits.{printed_digits}
 use Rattle.rdata.specs.Generic.{BeginsGeneric}
+use Rattle.rdata.specs.GatewayKeys.{octet_form}
+use Rattle.rdata.specs.HostIdentities.{host_identity_form}
 use Rattle.rdata.specs.PrefixLists.{prefixes_form}
 use Rattle.rdata.specs.Printing.{field_size, printed_field, printed_parts}
 use Rattle.rdata.specs.RestKinds.{rest_form, strings_in_octets}
@@ -43,7 +45,8 @@ use Rattle.rdata.specs.Rests.{PrintedToken, ArePrinted}
 use Rattle.rdata.specs.Types.{TypeShape, type_shapes}
 use Rattle.rdata.specs.Wire.{BeginsWithFields}
 use Rattle.rdata.specs.declared.rest.Rest.{Rest}
-use Rattle.rdata.specs.declared.rest.Rest.TheVariants.{Strings, Hex, Base64, Location as OfLocation, Prefixes}
+use Rattle.rdata.specs.declared.rest.Rest.TheVariants.{Strings, Hex, Base64, HostIdentity, Location as OfLocation, Prefixes, Nsap}
+use Rattle.rdata.proofs.HostWire.{algorithm_shown}
 use Rattle.rdata.proofs.LocationLemmas.{location_at_is}
 use Rattle.rdata.proofs.PlainWords.{ArePlain, encoded16_word}
 use Rattle.rdata.proofs.PrintedStrings.{quoted_token}
@@ -247,8 +250,10 @@ abbrev rest_shows_no_mark : Rest → Bool
 rest_shows_no_mark Strings = true
 rest_shows_no_mark Hex = true
 rest_shows_no_mark Base64 = true
+rest_shows_no_mark Nsap = true
 rest_shows_no_mark OfLocation = true
 rest_shows_no_mark Prefixes = true
+rest_shows_no_mark HostIdentity = true
 rest_shows_no_mark r = false
 
 strings_unmarked : (strings : List (List ℕ)) → BeginsMarked (map quoted_token strings) → ⊥
@@ -277,13 +282,22 @@ prefixes_unmarked : (octets : List ℕ) → BeginsMarked (prefixes_form.printed 
 prefixes_unmarked [] m = m
 prefixes_unmarked (o ∷ os) m = prefix_unmarked _ m.1
 
+-- an algorithm is a number of 8 bits
+host_unmarked : (octets : List ℕ) → (host_identity_form None).is_wire octets → BeginsMarked ((host_identity_form None).printed octets) → ⊥
+host_unmarked octets is m =
+    let own : octet_form.is_wire (slice_index octets 1 ∷ []) = subst octet_form.is_wire (sym (algorithm_shown is.0 octets is.1 is.2)) is.1 in
+    let small = own.1 0 0 (omega arith) in
+    no_decimal (slice_index octets 1) (omega (arith, small)) m.1
+
 rest_unmarked : (r : Rest) (octets : List ℕ) → rest_shows_no_mark r ≡ true → (rest_form None r).is_wire octets → BeginsMarked ((rest_form None r).printed octets) → ⊥
 rest_unmarked Strings octets shown is m = strings_unmarked (strings_in_octets octets) m
 rest_unmarked Hex octets shown is m = hex_unmarked octets m
 rest_unmarked Base64 octets shown is m = digits_unmarked octets m
+rest_unmarked Nsap octets shown is m = omega (arith, ap (λ t. get_or t 0 0) m.1)
 rest_unmarked OfLocation octets shown is m =
     location_unmarked is.0 is.1.0 (subst (λ l. BeginsMarked (map (λ word. record { is_quoted = false; text = word }) (location_words l))) (location_at_is octets is.0 is.1) m)
 rest_unmarked Prefixes octets shown is m = prefixes_unmarked octets m
+rest_unmarked HostIdentity octets shown is m = host_unmarked octets is m
 rest_unmarked r octets shown is m = absurd (true≢false (sym shown))
 
 -- ---- data

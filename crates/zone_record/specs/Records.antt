@@ -6,7 +6,8 @@ use Rattle.rdata_values.specs.declared.types.RecordType.{RecordType}
 use Rattle.rdata_tokens.specs.PrintedNames.{wire_name_text}
 use Rattle.dns_wire.specs.Wire.{wire}
 use Rattle.dns_zone.specs.Layout.{Step, begin, end}
-use Rattle.dns_zone.specs.Nesting.{IsNested, nested_in_block}
+use Rattle.dns_zone.specs.Nesting.{IsNested}
+use Rattle.dns_zone.specs.Forming.{nested_in_block}
 use Rattle.rdata.specs.ByType.{shape_of_code}
 use Rattle.rdata.specs.GatewayKeys.{plain_word}
 use Rattle.zone_record.specs.RdataPrinting.{token_steps}

@@ -1,29 +1,34 @@
 //! Prints RDATA in presentation format.
 ghost use Rattle.std.specs.Prelude.{◌≡◌, ◌≤◌, ℕ, List, [], ◌∷◌, None, length, take, OnOk, OnErr};
 ghost use Rattle.rdata_fields.specs.Fields.{field_form};
+ghost use Rattle.rdata_tokens.specs.NameSpelling.{IsWireName};
 ghost use Rattle.rdata.specs.Data.{IsDataOf, IsTextData};
 ghost use Rattle.rdata.specs.Digits.{digits_form};
 ghost use Rattle.rdata.specs.GatewayKeys.{gateway_form, gateway_key_form};
 ghost use Rattle.rdata.specs.Generic.{generic_form};
+ghost use Rattle.rdata.specs.HostIdentities.{hit_form, host_identity_form, server_form, IsHit};
 ghost use Rattle.rdata.specs.LocationRest.{location_form};
 ghost use Rattle.rdata.specs.MaybeStrings.{printed_maybe_string};
+ghost use Rattle.rdata.specs.NsapRest.{nsap_form};
 ghost use Rattle.rdata.specs.ParamsRest.{params_form};
 ghost use Rattle.rdata.specs.PrefixLists.{prefixes_form};
 ghost use Rattle.rdata.specs.Printing.{field_size, printed_data, printed_parts};
 ghost use Rattle.zone_record.specs.RdataPrinting.{FailsInTokens, PrintsTokens, token_step};
 ghost use Rattle.rdata.specs.RestKinds.{rest_form, strings_form};
+ghost use Rattle.rdata.specs.TokenForms.{AreParts, each_form};
 ghost use Rattle.rdata.specs.TypeLists.{types_form};
 ghost use Rattle.rdata.specs.Wire.{BeginsWithFields};
 
 use dns_codec::{base16, base64};
 use dns_zone::zonefile_fmt::{self, FormatWriter, Formatter};
 use rdata::gateways::{NAME, key_gateway_width};
+use rdata::host_identities::servers_offset;
 use rdata::{FieldText, Rest, Shape, has_no_text};
 use rdata_fields::{Field, field_width};
 use rdata_svcb::{ParamText, Params};
-use rdata_tails::{Gateway, Prefix, item_width, location_words};
-use rdata_tokens::{DigitsKind, NameText, QuotedOctets};
-use rdata_values::{BitmapTypes, PortableType};
+use rdata_tails::{Gateway, NsapText, Prefix, item_width, location_words};
+use rdata_tokens::{DigitsKind, NameText, QuotedOctets, name_width};
+use rdata_values::{BitmapTypes, PortableType, Salt};
 
 /// Returns the length in octets of the field that octets begin with.
 fn first_width(field: Field, octets: &[u8]) -> usize
@@ -183,6 +188,58 @@ fn write_gateway_key<F: FormatWriter>(octets: &[u8], p: &mut F) -> zonefile_fmt:
     write_digits(DigitsKind::Base64, &rest[width..], p)
 }
 
+/// Prints names, each as a word.
+fn write_servers<F: FormatWriter>(octets: &[u8], p: &mut F) -> zonefile_fmt::Result
+    requires { AreParts IsWireName octets.now }
+    ensures gives { PrintsTokens F.blocks F.step_gives p.old
+        ((each_form (server_form None)).printed octets.now) result p.new }
+    ensures fails { FailsInTokens F.blocks F.step_gives F.step_fails p.old
+        ((each_form (server_form None)).printed octets.now) result }
+{
+    let mut rest = octets;
+    while !rest.is_empty() {
+        let Some(width) = name_width(rest) else {
+            unreachable!()
+        };
+        p.write_token(NameText(&rest[..width]))?;
+        rest = &rest[width..];
+    }
+    Ok(())
+}
+
+/// Prints a host identity tag as a word.
+fn write_hit<F: FormatWriter>(octets: &[u8], p: &mut F) -> zonefile_fmt::Result
+    requires { IsHit octets.now }
+    ensures blocks { OnOk result (F.blocks p.new ≡ F.blocks p.old) }
+    ensures gives { OnOk result (F.step_gives p.old
+        (token_step (hit_form.printed octets.now)) p.new) }
+    ensures fails { OnErr result (F.step_fails p.old
+        (token_step (hit_form.printed octets.now))) }
+{
+    match Salt::from_octets(octets) {
+        Some(hit) => p.write_token(hit),
+        None => unreachable!(),
+    }
+}
+
+/// Prints an algorithm, a host identity tag, a public key as one word, and the names of servers.
+fn write_host_identity<F: FormatWriter>(octets: &[u8], p: &mut F) -> zonefile_fmt::Result
+    requires { (host_identity_form None).is_wire octets.now }
+    ensures gives { PrintsTokens F.blocks F.step_gives p.old
+        ((host_identity_form None).printed octets.now) result p.new }
+    ensures fails { FailsInTokens F.blocks F.step_gives F.step_fails p.old
+        ((host_identity_form None).printed octets.now) result }
+{
+    let Some(end) = servers_offset(octets) else {
+        unreachable!()
+    };
+    let start = 4 + usize::from(octets[0]);
+    p.write_token(octets[1])?;
+    write_hit(&octets[4..start], p)?;
+    p.write_token(base64::encode_display(&octets[start..end]))?;
+    write_servers(&octets[end..], p)
+}
+
 /// Prints service parameters, each as a word.
 fn write_params<F: FormatWriter>(octets: &[u8], p: &mut F) -> zonefile_fmt::Result
     ensures gives { PrintsTokens F.blocks F.step_gives p.old
@@ -199,6 +256,16 @@ fn write_params<F: FormatWriter>(octets: &[u8], p: &mut F) -> zonefile_fmt::Resu
     Ok(())
 }
 
+/// Prints the address of a network service as a word.
+fn write_nsap<F: FormatWriter>(octets: &[u8], p: &mut F) -> zonefile_fmt::Result
+    ensures gives { PrintsTokens F.blocks F.step_gives p.old
+        (nsap_form.printed octets.now) result p.new }
+    ensures fails { FailsInTokens F.blocks F.step_gives F.step_fails p.old
+        (nsap_form.printed octets.now) result }
+{
+    p.write_token(NsapText(octets))
+}
+
 /// Prints a tail.
 fn write_rest<F: FormatWriter>(rest: Rest, octets: &[u8], p: &mut F) -> zonefile_fmt::Result
     requires { (rest_form None rest).is_wire octets.now }
@@ -213,11 +280,13 @@ fn write_rest<F: FormatWriter>(rest: Rest, octets: &[u8], p: &mut F) -> zonefile
         Rest::MaybeString => write_maybe_string(octets, p),
         Rest::Hex => write_digits(DigitsKind::Hex, octets, p),
         Rest::Base64 => write_digits(DigitsKind::Base64, octets, p),
+        Rest::Nsap => write_nsap(octets, p),
         Rest::Types | Rest::SomeTypes => write_types(octets, p),
         Rest::Text | Rest::QuotedText => p.write_token(QuotedOctets(octets)),
         Rest::Location => write_location(octets, p),
         Rest::Prefixes => write_prefixes(octets, p),
         Rest::GatewayKey => write_gateway_key(octets, p),
+        Rest::HostIdentity => write_host_identity(octets, p),
         Rest::Params => write_params(octets, p),
     }
 }

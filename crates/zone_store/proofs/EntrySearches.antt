@@ -13,6 +13,7 @@ use Rattle.std.proofs.lemmas.List.{get_or-map, length-map}
 use Rattle.std.proofs.lemmas.List.Elements.{All-get_or}
 use Rattle.std.proofs.lemmas.List.Sorted.{searchable_from_sorted, IsPartitionedBy-leb}
 use Rattle.zone_record.specs.Names.{octet_order}
+use Rattle.zone_record.proofs.OrderTests.{is_tied, less_not_tied, tied_le}
 use Rattle.zone_store.specs.Entries.{IsStoreEntry, is_before_key, is_before_rrset, key_at, parts_at, prefixed_keys, record_of}
 use Rattle.zone_store.specs.Prefixes.{prefix_number}
 use Rattle.zone_store.specs.Stored.{AddedRecord, added_record, has_stored_rrset, order_to_rrset, record_at, stored_order, type_order, CountsBeforeRrset}
@@ -132,24 +133,9 @@ module _ {X : Type 0} (p : X → Bool) where
       ap (λ b. b || list_any p xs) (h 0 x (omega arith) (omega arith))
       ∙ any_at xs n e (omega (arith, within)) (λ i d low lt. h (suc i) d (omega arith) (omega (arith, lt))) (λ i d low lt. k (suc i) d (omega (arith, low)) (omega (arith, lt)))
 
-is_tied : (o : Ordering) → is_lt o ≡ false → is_le o ≡ true → is_eq o ≡ true
-is_tied Less h k = cc
-is_tied Equal h k = refl
-is_tied Greater h k = cc
-
-tied_not_less : (o : Ordering) → is_lt o ≡ true → is_eq o ≡ false
-tied_not_less Less h = refl
-tied_not_less Equal h = cc
-tied_not_less Greater h = cc
-
-tied_le : (o : Ordering) → is_eq o ≡ true → is_le o ≡ true
-tied_le Less h = refl
-tied_le Equal h = refl
-tied_le Greater h = cc
-
 module _ (key : List ℕ) (class code : ℕ) (records : List AddedRecord) (count : ℕ) (sorted : IsSorted stored_order records) (counts : CountsBeforeRrset key class code records count) where
   before : AllWithin (λ r. is_eq (order_to_rrset r key class code) ≡ false) records 0 count
-  before i d low lt = tied_not_less (order_to_rrset (get_or records i d) key class code) (counts.0 i d low lt)
+  before i d low lt = less_not_tied (order_to_rrset (get_or records i d) key class code) (counts.0 i d low lt)
 
   pub rrset_found : count < length records → has_stored_rrset key class code records ≡ is_eq (order_to_rrset (record_at records count) key class code)
   rrset_found within =

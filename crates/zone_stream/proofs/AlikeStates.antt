@@ -48,9 +48,9 @@ same_choice (Some ttl) default last other minimum h = refl
 same_choice None (Some ttl) last other minimum h = refl
 same_choice None None last other minimum h = ap (λ l. chosen_ttl None None l minimum) (h refl)
 
-same_record : (a b : State) (at : ℕ) (w : RecordHeader) (c : Option RecordTtl) → a.class ≡ b.class → record_with a at w c ≡ record_with b at w c
-same_record a b at w None e = refl
-same_record a b at w (Some ttl) e = ap (λ k. Ok (Record at ttl (unwrap_or w.class k) w.rtype)) e
+same_record : (a b : State) (at data_at end : ℕ) (w : RecordHeader) (c : Option RecordTtl) → a.class ≡ b.class → record_with a at data_at end w c ≡ record_with b at data_at end w c
+same_record a b at data_at end w None e = refl
+same_record a b at data_at end w (Some ttl) e = ap (λ k. Ok (Record at data_at end ttl (unwrap_or w.class k) w.rtype)) e
 
 module _ (a b : State) (alike : AreAlike a b) where
   -- the state that an entry leaves after the one state, moved to the other
@@ -80,17 +80,17 @@ module _ (a b : State) (alike : AreAlike a b) where
   -- ---- entries
 
   module _ (room : Room) (at end : ℕ) (old new : List ℕ) (result : Result ParsedEntry RecordError) where
-    same_ttl : (w : RecordHeader) (minimum : Option ℕ) → record_with a at w (chosen_ttl w.ttl a.default_ttl a.last_ttl minimum) ≡ record_with b at w (chosen_ttl w.ttl b.default_ttl b.last_ttl minimum)
-    same_ttl w minimum =
-        same_record a b at w (chosen_ttl w.ttl a.default_ttl a.last_ttl minimum) alike.class
-        ∙ ap (record_with b at w) (same_choice w.ttl a.default_ttl a.last_ttl b.last_ttl minimum alike.last_ttl ∙ ap (λ d. chosen_ttl w.ttl d b.last_ttl minimum) alike.default_ttl)
+    same_ttl : (data_at : ℕ) (w : RecordHeader) (minimum : Option ℕ) → record_with a at data_at end w (chosen_ttl w.ttl a.default_ttl a.last_ttl minimum) ≡ record_with b at data_at end w (chosen_ttl w.ttl b.default_ttl b.last_ttl minimum)
+    same_ttl data_at w minimum =
+        same_record a b at data_at end w (chosen_ttl w.ttl a.default_ttl a.last_ttl minimum) alike.class
+        ∙ ap (record_with b at data_at end w) (same_choice w.ttl a.default_ttl a.last_ttl b.last_ttl minimum alike.last_ttl ∙ ap (λ d. chosen_ttl w.ttl d b.last_ttl minimum) alike.default_ttl)
 
-    same_behind : (w : RecordHeader) (r : Result (Unit {0}) RecordError) → ReadsDataAfterHeader a at w old r new result → ReadsDataAfterHeader b at w old r new result
-    same_behind w (Err r) h = h
-    same_behind w (Ok u) h = (h.0, h.1, (h.2.0, h.2.1, h.2.2 ∙ same_ttl w h.2.0))
+    same_behind : (data_at : ℕ) (w : RecordHeader) (r : Result (Unit {0}) RecordError) → ReadsDataAfterHeader a at data_at end w old r new result → ReadsDataAfterHeader b at data_at end w old r new result
+    same_behind data_at w (Err r) h = h
+    same_behind data_at w (Ok u) h = (h.0, h.1, (h.2.0, h.2.1, h.2.2 ∙ same_ttl data_at w h.2.0))
 
     same_data : (w : RecordHeader) (tokens : List TokenSeen) → ReadsRecordData a room at end w tokens old result new → ReadsRecordData b room at end w tokens old result new
-    same_data w tokens h = (h.0, h.1, subst (λ o. ReadsType (known_name o) room w.rtype end tokens old h.0 h.1 new) alike.origin h.2, same_behind w h.0 h.3)
+    same_data w tokens h = (h.0, h.1, subst (λ o. ReadsType (known_name o) room w.rtype end tokens old h.0 h.1 new) alike.origin h.2, same_behind (next_place tokens end) w h.0 h.3)
 
     same_words : (first : Result (Unit {0}) RecordError) (words : Result RecordHeader HeaderError) (tokens : List TokenSeen) → ReadsAfterHeader a room at end first words tokens old result new → ReadsAfterHeader b room at end first words tokens old result new
     same_words (Err r) words tokens h = h
@@ -109,7 +109,7 @@ module _ (a b : State) (alike : AreAlike a b) where
   same_meaning room end tokens (says_origin t) old new result owner h = (subst (λ o. ReadsOrigin (known_name o) t result) alike.origin h.0, h.1)
   same_meaning room end tokens (says_default_ttl r) old new result owner h = h
   same_meaning room end tokens (says_include file token) old new result owner h =
-      subst (λ o. ReadsInclude (known_name o) room (next_place (drop 1 tokens) end) file token old result new) alike.origin h
+      subst (λ o. ReadsInclude (known_name o) room (next_place tokens end) end (next_place (drop 1 tokens) end) file token old result new) alike.origin h
   same_meaning room end tokens says_generate old new result owner h = h
   same_meaning room end tokens (says_record token words left) old new result owner h = (
     h.0,

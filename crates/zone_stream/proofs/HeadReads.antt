@@ -109,8 +109,8 @@ module _ (room : Room) where
         let own = data_of r in
         let fits : length l.old + length own.octets ≤ room.fits = omega (arith, l.fits, known.values.typed.short) in
         let is = known.read room l.end l.tokens before after l.old l.new l.result small l.printed origin fits l.reads in
-        let leaves = record_leaves room false l.end l.tokens before after l.old l.new _ (Explicit r.ttl) r.class own.rtype (subst (λ e. ReadsZoneEntry room false l.end l.tokens before l.old e after l.new) is.0 l.reads) in
-        record { origin = leaves.origin; owner = is.1; default_ttl = leaves.ttls.0; last_ttl = leaves.ttls.1; class = leaves.class }
+        let leaves = record_leaves room false l.end l.tokens before after l.old l.new _ _ _ (Explicit r.ttl) r.class own.rtype (subst (λ e. ReadsZoneEntry room false l.end l.tokens before l.old e after l.new) is.1 l.reads) in
+        record { origin = leaves.origin; owner = is.2; default_ttl = leaves.ttls.0; last_ttl = leaves.ttls.1; class = leaves.class }
 
     -- after records, the names and the TTLs are those of the last
     records_read : (repeated : Option (Record N O)) (r : Record N O) (first last : State) → AllByRecursion IsKnownRecord (option_to_list repeated) → IsKnownRecord r → AllByRecursion (λ x. x.ttl < 2 ^ 31) (option_to_list repeated ++ r ∷ [])
@@ -137,7 +137,7 @@ module _ {N O : Type 0} (h : PartHead N O) (name : (labels : List (List ℕ)) �
   leads_there room last short behind reads =
       let s : State = state_of h in
       let start : State = nothing_declared s.class in
-      let leaves = record_leaves behind.room behind.blank behind.end behind.tokens behind.before s behind.old behind.new behind.at behind.ttl behind.class behind.rtype behind.reads in
+      let leaves = record_leaves behind.room behind.blank behind.end behind.tokens behind.before s behind.old behind.new behind.at behind.data_at behind.last behind.ttl behind.class behind.rtype behind.reads in
       let parts = read_parts room (directive_lines s) (map record_tokens (head_records h)) start last reads in
       let halves = read_parts room (origin_lines s.origin) (default_ttl_lines s.default_ttl) start parts.0 parts.1 in
       let origin : halves.0 ≡ record start { origin = s.origin } = origins_read room s.origin start halves.0 (λ e. behind.origin (sym leaves.origin ∙ e)) name refl halves.1 in

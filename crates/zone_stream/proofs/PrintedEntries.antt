@@ -14,7 +14,8 @@ use Rattle.dns_lexer.proofs.OctetFaults.{given_alike}
 use Rattle.dns_lexer.proofs.OctetOpeners.{splits_utf8}
 use Rattle.dns_zone.specs.Documents.{IsProper, IsWellFormed}
 use Rattle.dns_zone.specs.Layout.{Step, begin, end, newline}
-use Rattle.dns_zone.specs.Nesting.{lines_of, nested_lines}
+use Rattle.dns_zone.specs.Nesting.{lines_of}
+use Rattle.dns_zone.specs.Forming.{nested_lines}
 use Rattle.dns_zone.specs.declared.zonefile_fmt.DisplayKind.{DisplayKind}
 use Rattle.dns_laws.specs.Entries.{document_entries}
 use Rattle.dns_laws.proofs.DocumentLayouts.{laid_splits, printed_laid}

@@ -44,9 +44,9 @@ quiet_ttl (Minimum ttl) = (refl, tt)
 quiet_minimum : (read : Result ParsedEntry RecordError) → NoneDeclared origin_declared (minimum_of_record read)
 quiet_minimum (Ok Empty) = tt
 quiet_minimum (Ok Directive) = tt
-quiet_minimum (Ok (Include file has_origin)) = tt
-quiet_minimum (Ok (Generate at)) = tt
-quiet_minimum (Ok (IsRecord at ttl class rtype)) = quiet_ttl ttl
+quiet_minimum (Ok (Include at end file has_origin)) = tt
+quiet_minimum (Ok (Generate at end)) = tt
+quiet_minimum (Ok (IsRecord at data_at end ttl class rtype)) = quiet_ttl ttl
 quiet_minimum (Err r) = tt
 
 module _ (whole : WholeRecordsAreIndependent) (room : Room) (start : State) (known : IsOrigin (known_name start.origin)) {N O : Type 0} where
@@ -84,9 +84,11 @@ module _ (whole : WholeRecordsAreIndependent) (room : Room) (start : State) (kno
         let is = printed_read r shown.0 back owner_word whole room end tokens b.state x.after x.old x.new x.read shown.1 own.tokens origin_is fits reads in
         record {
           at = next_place tokens end;
-          is = ap (λ e. result_of_entry e x.read) own.ends ∙ is.0;
-          owner = is.1;
-          «data» = is.2;
+          data_at = is.0;
+          end = end;
+          is = ap (λ e. result_of_entry e x.read) own.ends ∙ is.1;
+          owner = is.2;
+          «data» = is.3;
         }
 
   all_given : (records : List (Record N O)) (done rest : List EntryAsRead) → AllByRecursion IsShown records → AreEntriesOf records (map (λ (x : EntryAsRead). x.entry) rest) → NoneDeclared origin_declared (all_declared done)

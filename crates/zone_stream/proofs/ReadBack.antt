@@ -15,6 +15,7 @@ use Rattle.zone_record.specs.RecordLaws.{AreRecordValues, IsOwnerWord, IsRecordR
 use Rattle.zone_record.specs.Records.{data_of, record_tokens}
 use Rattle.zone_record.specs.declared.record.Record.{Record}
 use Rattle.zone_reader.specs.ReadingLaws.{IsWholeRecord, WholeRecordsAreIndependent}
+use Rattle.rdata_fields.specs.Source.{next_place}
 use Rattle.zone_stream.specs.ReadBack.{IsPrintedRecordRead}
 
 no_dollar : (text : List ℕ) → slice_index text 0 ≢ dollar → directive_of_word text ≡ None
@@ -58,4 +59,6 @@ module _ {N O : Type 0} (r : Record N O) (values : AreRecordValues r) (back : Is
 
   pub printed_read : WholeRecordsAreIndependent → IsPrintedRecordRead r
   printed_read whole room end tokens before after old new result small p origin fits reads =
-      whole room end tokens r.owner r.ttl r.class (data_of r).rtype (data_of r).octets (says_whole end tokens small p) before after old new result origin fits reads
+      let says = says_whole end tokens small p in
+      let is = whole room end tokens r.owner r.ttl r.class (data_of r).rtype (data_of r).octets says before after old new result origin fits reads in
+      (next_place says.behind end, is.0, is.1, is.2)

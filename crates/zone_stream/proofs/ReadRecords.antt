@@ -12,6 +12,7 @@ use Rattle.zone_reader.specs.declared.directive.Directive.{Directive}
 use Rattle.zone_reader.specs.declared.header.RecordHeader.{RecordHeader}
 use Rattle.zone_reader.specs.declared.header.HeaderError.{HeaderError}
 use Rattle.rdata_fields.specs.declared.record_error.RecordError.{RecordError}
+use Rattle.rdata_fields.specs.Source.{next_place}
 use Rattle.zone_reader.specs.EntryReading.{ReadsDataAfterHeader, ReadsMeaning, ReadsAfterHeader, ReadsZoneEntry, minimum_of_ttl, explicit_ttl_of, owner_of_record, record_with, declared_by_entry}
 use Rattle.zone_reader.specs.Learning.{chosen_ttl}
 use Rattle.zone_reader.specs.Past.{Declared, origin_declared, default_ttl_declared, ttl_declared, NoneDeclared, IsOriginAfter, no_origin_said, origin_said_last, StateAfter}
@@ -122,25 +123,25 @@ module _ (before after : State) (token : Option TokenSeen) (own : Option ℕ) wh
 
 -- ---- a record that is read
 
-module _ (room : Room) (blank : Bool) (end : ℕ) (tokens : List TokenSeen) (before after : State) (old new : List ℕ) (at : ℕ) (ttl : RecordTtl) (class : Class) (rtype : RecordType) where
+module _ (room : Room) (blank : Bool) (end : ℕ) (tokens : List TokenSeen) (before after : State) (old new : List ℕ) (at data_at last : ℕ) (ttl : RecordTtl) (class : Class) (rtype : RecordType) where
   abbrev read : Result ParsedEntry RecordError
-  read = Ok (Record at ttl class rtype)
+  read = Ok (Record at data_at last ttl class rtype)
 
-  found_ttl : (place : ℕ) (w : RecordHeader) (c : Option RecordTtl) → read ≡ record_with before place w c → c ≡ Some ttl
-  found_ttl place w None e = cc
-  found_ttl place w (Some t) e = let same : t ≡ ttl = cc in ap Some same
+  found_ttl : (place data_place end_place : ℕ) (w : RecordHeader) (c : Option RecordTtl) → read ≡ record_with before place data_place end_place w c → c ≡ Some ttl
+  found_ttl place data_place end_place w None e = cc
+  found_ttl place data_place end_place w (Some t) e = let same : t ≡ ttl = cc in ap Some same
 
-  by_data : (place : ℕ) (token : Option TokenSeen) (w : RecordHeader) (r : Result (Unit {0}) RecordError) → ReadsDataAfterHeader before place w old r new read → StateAfter before (said_by token w.ttl ttl) after → RecordLeaves before ttl after
-  by_data place token w (Err r) h known = cc
-  by_data place token w (Ok u) h known =
-      let found = found_ttl place w (chosen_ttl w.ttl before.default_ttl before.last_ttl h.2.0) h.2.2 in
+  by_data : (place data_place : ℕ) (token : Option TokenSeen) (w : RecordHeader) (r : Result (Unit {0}) RecordError) → ReadsDataAfterHeader before place data_place end w old r new read → StateAfter before (said_by token w.ttl ttl) after → RecordLeaves before ttl after
+  by_data place data_place token w (Err r) h known = cc
+  by_data place data_place token w (Ok u) h known =
+      let found = found_ttl place data_place end w (chosen_ttl w.ttl before.default_ttl before.last_ttl h.2.0) h.2.2 in
       leaves before after token w.ttl ttl known (subst (λ c. AreFrom c w.ttl before.default_ttl before.last_ttl) found (from_chosen w.ttl before.default_ttl before.last_ttl h.2.0))
 
   by_words : (place : ℕ) (token : Option TokenSeen) (first : Result (Unit {0}) RecordError) (words : Result RecordHeader HeaderError) (left : List TokenSeen) (d : Option (Result Directive ErrorKind)) → ReadsAfterHeader before room place end first words left old read new
       → StateAfter before (declared_by_entry d (says_record token words left) read) after → RecordLeaves before ttl after
   by_words place token (Err r) words left d h known = let no = h.0 in cc
   by_words place token (Ok u) (Err r) left d h known = let no = h.0 in cc
-  by_words place token (Ok u) (Ok w) left d h known = by_data place token w h.0 h.3 known
+  by_words place token (Ok u) (Ok w) left d h known = by_data place (next_place left end) token w h.0 h.3 known
 
   by_meaning : (m : EntryMeaning) (d : Option (Result Directive ErrorKind)) (owner : NameState) → ReadsMeaning before room end tokens m old read owner new → StateAfter before (declared_by_entry d m read) after → RecordLeaves before ttl after
   by_meaning says_nothing d owner h known = let no = h.0 in cc

@@ -40,10 +40,12 @@ pub record IsAfterFirstRecord {N O : Type 0} (h : PartHead N O) : Type 0 where
   pub old : List ℕ
   pub new : List ℕ
   pub at : ℕ
+  pub data_at : ℕ
+  pub last : ℕ
   pub ttl : RecordTtl
   pub class : Class
   pub rtype : RecordType
-  pub reads : ReadsZoneEntry room blank end tokens before old (Ok (IsRecord at ttl class rtype)) (state_of h) new
+  pub reads : ReadsZoneEntry room blank end tokens before old (Ok (IsRecord at data_at last ttl class rtype)) (state_of h) new
   pub owner : (state_of h).owner ≡ Name h.first.owner
   pub ttl_is : h.first.ttl ≡ seconds_of ttl
   pub origin : before.origin ≢ Rejected

@@ -17,7 +17,8 @@ use Rattle.zone_record.specs.declared.record.Record.{Record}
 use Rattle.rdata_tokens.specs.PrintedNames.{wire_name_text}
 use Rattle.dns_wire.specs.Wire.{wire}
 use Rattle.dns_zone.specs.Layout.{Step, newline}
-use Rattle.dns_zone.specs.Nesting.{IsNested, lines_of, nested_append, nested_lines}
+use Rattle.dns_zone.specs.Nesting.{IsNested, lines_of}
+use Rattle.dns_zone.specs.Forming.{nested_append, nested_lines}
 use Rattle.dns_zone.specs.Printed.{printed}
 use Rattle.dns_zone.specs.declared.zonefile_fmt.DisplayKind.TheVariants.{Simple}
 use Rattle.zone_stream.specs.declared.cut_error.CutError.{CutError}

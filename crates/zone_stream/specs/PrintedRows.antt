@@ -34,11 +34,11 @@ block_row = refl
 no_record_row : records_text {N = ℕ} {O = ℕ} Simple [] ≡ []
 no_record_row = refl
 
--- the result for it, if it begins at 43 and one octet is in the target before
+-- the result for it, if it begins at 43 and ends at 81, its data begin at 65, and one octet is in the target before
 given_row : IsRecordReturned mail_record (record {
   old = 7 ∷ [];
-  result = Ok (IsRecord 43 (Explicit 3600) 1 Rtype.mx);
+  result = Ok (IsRecord 43 65 81 (Explicit 3600) 1 Rtype.mx);
   new = 7 ∷ mail;
   state = record { origin = Unset; owner = Name (below_example (codes "a")); default_ttl = None; last_ttl = None; class = 3 };
 })
-given_row = record { at = 43; is = refl; owner = refl; «data» = refl }
+given_row = record { at = 43; data_at = 65; end = 81; is = refl; owner = refl; «data» = refl }

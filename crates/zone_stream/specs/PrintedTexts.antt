@@ -23,7 +23,9 @@ records_text kind records = printed kind (lines_of record_document records)
 -- the result is this record: its own TTL, its class and its type, its owner, and its data after the octets that were in the target
 pub record IsRecordReturned {N O : Type 0} (r : Record N O) (g : EntryResult) : Type 0 where
   pub at : ℕ
-  pub is : g.result ≡ Ok (IsRecord at (Explicit r.ttl) r.class (data_of r).rtype)
+  pub data_at : ℕ
+  pub end : ℕ
+  pub is : g.result ≡ Ok (IsRecord at data_at end (Explicit r.ttl) r.class (data_of r).rtype)
   pub owner : g.state.owner ≡ Name r.owner
   pub «data» : g.new ≡ g.old ++ (data_of r).octets
 

@@ -20,4 +20,4 @@ use Rattle.zone_reader.specs.declared.ttl.RecordTtl.TheVariants.{Explicit}
 abbrev pub IsPrintedRecordRead : {N O : Type 0} → Record N O → Type 0
 IsPrintedRecordRead r = (room : Room) (end : ℕ) (tokens : List TokenSeen) (before after : State) (old new : List ℕ) (result : Result ParsedEntry RecordError) → r.ttl < 2 ^ 31 → ArePrinted (record_tokens r) tokens
     → IsOrigin (known_name before.origin) → length old + length (data_of r).octets ≤ room.fits → ReadsZoneEntry room false end tokens before old result after new
-    → (result ≡ Ok (IsRecord (next_place tokens end) (Explicit r.ttl) r.class (data_of r).rtype)) × (after.owner ≡ Name r.owner) × (new ≡ old ++ (data_of r).octets)
+    → (data_at : ℕ) × (result ≡ Ok (IsRecord (next_place tokens end) data_at end (Explicit r.ttl) r.class (data_of r).rtype)) × (after.owner ≡ Name r.owner) × (new ≡ old ++ (data_of r).octets)

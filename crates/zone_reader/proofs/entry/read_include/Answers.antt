@@ -17,6 +17,6 @@ returns-in-Err-clause-reads g c =
     let new = octets c.append_file_name-file_name_len.new.target in
     let room = g.B.OctetsBuilder.room in
     let r = c.in-Err.error in
-    subst (λ o. ReadsLastInclude o room end tokens old (Err r) new) c.name.ensures
-    (include_refused origin end room old tokens behind c.append_file_name-file_name_len.result r new c.append_file_name-file_name_len.ensures.passes
+    subst (λ o. ReadsLastInclude o room c.args.begin end tokens old (Err r) new) c.name.ensures
+    (include_refused origin end room old c.args.begin tokens behind c.append_file_name-file_name_len.result r new c.append_file_name-file_name_len.ensures.passes
     (subst (λ n. ParsesIncludedOrigin origin n behind (Err r)) (ap (λ e. e.at) c.append_file_name-file_name_len.ensures.end) c.in-Err.ensures.takes))

@@ -1,6 +1,9 @@
-use Rattle.std.proofs.Common.{Ok, Err, ℕ, length, ap, refl, subst}
+use Rattle.std.proofs.Common.{Ok, Err, ℕ, length, ap, refl, subst, ◌∙◌}
 use Rattle.std.specs.Option.{option_copied}
 use Rattle.rdata.specs.ByType.{ReadsType}
+use Rattle.rdata_fields.specs.Source.{next_place}
+use Rattle.zone_reader.specs.EntryReading.{record_with}
+use Rattle.zone_reader.specs.Learning.{chosen_ttl}
 use Rattle.zone_reader.proofs.EntryJoins.{data_extends, minimum_gained}
 use Rattle.zone_reader.proofs.Learned.{nothing_learned}
 use Rattle.zone_reader.proofs.entry.read_record_data.Goals as goal
@@ -19,8 +22,11 @@ returns-in-Ok-clause-reads g c =
       Ok tt,
       left c.read_rdata.new.source,
       subst (λ o. ReadsType o room w.rtype (ends c.args.source.now).at (left c.args.source.now) old (Ok tt) (left c.read_rdata.new.source) new) c.name.ensures c.in-Ok.ensures.reads,
-      minimum_gained c.args.state.now c.args.state.now.owner room c.args.at (ends c.args.source.now).at old new c.finish_record.result w begun gains.0 c.as_slice.result.now c.minimum_of-minimum.result gains.2
-          (ap length c.as_slice-old_len.ensures.value) c.as_slice.ensures.value c.minimum_of-minimum.ensures c.finish_record.ensures.record,
+      minimum_gained c.args.state.now c.args.state.now.owner room c.args.at (ends c.args.source.now).at old new c.finish_record.result (next_place (left c.args.source.now) (ends c.args.source.now).at) w begun gains.0 c.as_slice.result.now c.minimum_of-minimum.result gains.2
+          (ap length c.as_slice-old_len.ensures.value) c.as_slice.ensures.value c.minimum_of-minimum.ensures
+          (c.finish_record.ensures.record
+          ∙ (λ i. record_with c.args.state.now c.args.at (c.place-data_at.ensures i) ((c.skip_tokens-end.ensures.at ∙ ap (λ e. e.at) c.in-Ok.ensures.end) i) w
+          (chosen_ttl w.ttl c.args.state.now.default_ttl c.args.state.now.last_ttl c.minimum_of-minimum.result))),
     )
 
 pub returns-in-Ok-clause-extends : goal.returns-in-Ok-clause-extends

@@ -2,6 +2,7 @@ use Rattle.std.proofs.Common.{◌≡◌, ◌∷◌, [], ap, ◌∙◌, sym, subs
 use Rattle.std.specs.Prelude.{Err, Ok, Some}
 use Rattle.dns_lexer.specs.declared.pieces.Piece.TheVariants.{Word as WordAt, Quote as QuoteAt, Comment as CommentAt, End as EndAt}
 use Rattle.zone_reader.specs.Tape.{IsSpanIn, span_token}
+use Rattle.zone_reader.specs.declared.tape.TheConstants.{TAPE_CAPACITY}
 use Rattle.zone_reader.proofs.Filling.{comment, ends, first_wide, first_within, word}
 use Rattle.zone_reader.proofs.Unfilled.{unfilled_end, unfilled_fault, unfilled_token}
 use Rattle.zone_reader.proofs.tape.fill.Goals as goal
@@ -58,21 +59,21 @@ returns-then-not-push-clause-none c =
     let rest = c.next.new.self in
     let p = c.in-Ok-Word.span in
     let now : c.pieces.pieces ≡ Ok (WordAt p) ∷ rest = c.in-Some.ensures.steps ∙ ap (λ x. x ∷ rest) c.in-Ok-Word.is ∙ ap (λ x. Ok x ∷ rest) (rw c.in-Ok-Word.is at c.in-Ok-Word.field-0-is) in
-    λ none. unfilled_token c.args.octets.now c.of_octets-pieces.result c.pieces.pieces c.pieces.ended c.pieces.tape.items c.pieces.invariant.fills (c.of_octets-pieces.ensures.reads, c.of_octets-pieces.ensures.within) (WordAt p) rest now tt c.if-not-push.ensures.0
+    λ none. unfilled_token TAPE_CAPACITY c.args.octets.now c.of_octets-pieces.result c.pieces.pieces c.pieces.ended c.pieces.tape.items c.pieces.invariant.fills (c.of_octets-pieces.ensures.reads, c.of_octets-pieces.ensures.within) (WordAt p) rest now tt c.if-not-push.ensures.0
 
 pub returns-then-not-push-2-clause-none : goal.returns-then-not-push-2-clause-none
 returns-then-not-push-2-clause-none c =
     let rest = c.next.new.self in
     let p = c.in-Ok-Quote.span in
     let now : c.pieces.pieces ≡ Ok (QuoteAt p) ∷ rest = c.in-Some.ensures.steps ∙ ap (λ x. x ∷ rest) c.in-Ok-Quote.is ∙ ap (λ x. Ok x ∷ rest) (rw c.in-Ok-Quote.is at c.in-Ok-Quote.field-0-is) in
-    λ none. unfilled_token c.args.octets.now c.of_octets-pieces.result c.pieces.pieces c.pieces.ended c.pieces.tape.items c.pieces.invariant.fills (c.of_octets-pieces.ensures.reads, c.of_octets-pieces.ensures.within) (QuoteAt p) rest now tt c.if-not-push-2.ensures.0
+    λ none. unfilled_token TAPE_CAPACITY c.args.octets.now c.of_octets-pieces.result c.pieces.pieces c.pieces.ended c.pieces.tape.items c.pieces.invariant.fills (c.of_octets-pieces.ensures.reads, c.of_octets-pieces.ensures.within) (QuoteAt p) rest now tt c.if-not-push-2.ensures.0
 
 pub returns-in-Err-clause-none : goal.returns-in-Err-clause-none
 returns-in-Err-clause-none c =
     let rest = c.next.new.self in
     let now : c.pieces.pieces ≡ Err c.in-Err.field-0 ∷ rest = c.in-Some.ensures.steps ∙ ap (λ x. x ∷ rest) c.in-Err.is in
-    λ none. unfilled_fault c.args.octets.now c.of_octets-pieces.result c.pieces.pieces c.pieces.ended c.pieces.tape.items c.pieces.invariant.fills (c.of_octets-pieces.ensures.reads, c.of_octets-pieces.ensures.within) c.in-Err.field-0 rest now
+    λ none. unfilled_fault TAPE_CAPACITY c.args.octets.now c.of_octets-pieces.result c.pieces.pieces c.pieces.ended c.pieces.tape.items c.pieces.invariant.fills (c.of_octets-pieces.ensures.reads, c.of_octets-pieces.ensures.within) c.in-Err.field-0 rest now
 
 pub returns-clause-none : goal.returns-clause-none
 returns-clause-none c =
-    λ none. unfilled_end c.args.octets.now c.of_octets-pieces.result c.pieces.pieces c.pieces.ended c.pieces.tape.items c.pieces.invariant.fills (c.of_octets-pieces.ensures.reads, c.of_octets-pieces.ensures.within) c.in_default.ensures.steps.0
+    λ none. unfilled_end TAPE_CAPACITY c.args.octets.now c.of_octets-pieces.result c.pieces.pieces c.pieces.ended c.pieces.tape.items c.pieces.invariant.fills (c.of_octets-pieces.ensures.reads, c.of_octets-pieces.ensures.within) c.in_default.ensures.steps.0

@@ -10,11 +10,11 @@ use Rattle.zone_reader.proofs.WordEnds.{begins_word, blank_before, no_other, wor
 use Rattle.zone_reader.proofs.tape.fill_line.Goals as goal
 
 pub returns-then-depth-eq0-clause-some : goal.returns-then-depth-eq0-clause-some
-returns-then-depth-eq0-clause-some c =
+returns-then-depth-eq0-clause-some g c =
     feed_filled c.args.octets.now c.octets.depth c.octets.at c.octets.ended c.octets.tape.items c.type_inv.octets c.octets.invariant.fills c.if-depth-eq0.true (omega (arith, c.octets-test.true)) c.in-10.is
 
 pub octets-preserved-in-59 : goal.octets-preserved-in-59
-octets-preserved-in-59 c =
+octets-preserved-in-59 g c =
     let inv = c.octets.invariant in
     let e = c.in_ok-at-in-59.ensures in
     record {
@@ -25,7 +25,7 @@ octets-preserved-in-59 c =
     }
 
 pub octets-preserved-in-34 : goal.octets-preserved-in-34
-octets-preserved-in-34 c =
+octets-preserved-in-34 g c =
     let inv = c.octets.invariant in
     let e = c.in_ok-end-in-34.ensures in
     record {
@@ -36,7 +36,7 @@ octets-preserved-in-34 c =
     }
 
 pub octets-preserved : goal.octets-preserved
-octets-preserved c =
+octets-preserved g c =
     let inv = c.octets.invariant in
     let octets = c.args.octets.now in
     let e = c.in_ok-end-in_default.ensures.some in
@@ -54,11 +54,11 @@ octets-preserved c =
     }
 
 pub returns-then-depth-eq0-2-clause-some : goal.returns-then-depth-eq0-2-clause-some
-returns-then-depth-eq0-2-clause-some c =
+returns-then-depth-eq0-2-clause-some g c =
     return_ended c.args.octets.now c.octets.depth c.octets.at c.octets.ended c.octets.tape.items c.type_inv.octets c.octets.invariant.fills c.if-depth-eq0-2.true c.in_ok-end-in-13.end c.in-13.is c.in_ok-end-in-13.ensures
 
 pub octets-preserved-in-13 : goal.octets-preserved-in-13
-octets-preserved-in-13 c =
+octets-preserved-in-13 g c =
     let inv = c.octets.invariant in
     let e = c.in_ok-end-in-13.ensures in
     record {
@@ -70,16 +70,16 @@ octets-preserved-in-13 c =
 
 -- a token too many
 pub returns-then-not-push-2-clause-none : goal.returns-then-not-push-2-clause-none
-returns-then-not-push-2-clause-none c =
+returns-then-not-push-2-clause-none g c =
     let octets = c.args.octets.now in
     let end = c.in_ok-end-in_default.end in
     let e = c.in_ok-end-in_default.ensures.some in
     let now = word_left octets c.octets.depth c.octets.at end (first_blank octets) e in
-    λ none. inl (unfilled_token octets (all_left octets) (rest_left octets c.octets.depth c.octets.at) c.octets.ended c.octets.tape.items c.octets.invariant.fills (all_given octets c.type_inv.octets)
+    λ none. inl (unfilled_token g.row.N octets (all_left octets) (rest_left octets c.octets.depth c.octets.at) c.octets.ended c.octets.tape.items c.octets.invariant.fills (all_given octets c.type_inv.octets)
     (word_at c.octets.at end) (rest_left octets c.octets.depth end) now tt c.if-not-push-2.ensures.0)
 
 pub returns-in_err-end-in_default-clause-none : goal.returns-in_err-end-in_default-clause-none
-returns-in_err-end-in_default-clause-none c =
+returns-in_err-end-in_default-clause-none g c =
     let octets = c.args.octets.now in
     λ none. inr (λ feed line.
     begins_word octets c.octets.depth feed c.octets.at line (c.octets.invariant.plain feed line).0 (λ e. omega (arith, e)) (λ e. grind (arith, nat_tests)) (λ e. grind (arith, nat_tests)) (c.in_err-end-in_default.ensures.none refl))

@@ -4,7 +4,7 @@ use Rattle.zone_reader.proofs.LineFilling.{FillingAt}
 use Rattle.zone_reader.proofs.tape.fill_line.Given as goal
 
 abbrev pub invariant-octets : goal.invariant-octets
-invariant-octets l = record {
+invariant-octets g l = record {
   deep : l.depth ≤ l.at;
   within : l.at ≤ length l.octets;
   fills : FillingAt l.octets l.depth l.at l.ended l.tape.items;
@@ -12,4 +12,4 @@ invariant-octets l = record {
 }
 
 abbrev pub decreases-octets : goal.decreases-octets
-decreases-octets l = length l.octets - l.at
+decreases-octets g l = length l.octets - l.at

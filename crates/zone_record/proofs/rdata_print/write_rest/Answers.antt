@@ -12,6 +12,9 @@ use Rattle.zone_record.proofs.rdata_print.write_rest.Goals as goal
 pub write_gateway_key-requires : goal.write_gateway_key-requires
 write_gateway_key-requires g c = subst (λ (r : Rest). (rest_form None r).is_wire c.args.octets.now) c.in-GatewayKey.is c.requires
 
+pub write_host_identity-requires : goal.write_host_identity-requires
+write_host_identity-requires g c = subst (λ (r : Rest). (rest_form None r).is_wire c.args.octets.now) c.in-HostIdentity.is c.requires
+
 pub returns-in-Text-clause-fails : goal.returns-in-Text-clause-fails
 returns-in-Text-clause-fails g c =
     let octets = c.args.octets.now in
