@@ -3,7 +3,7 @@ use Rattle.std.specs.Prelude.{ℕ, List, [], ◌∷◌, codes, true, false, get_
 use denote.Enum.Declared.{tag_of}
 use Rattle.finding_codes.specs.contracts.code.Code.{the_type}
 use Rattle.finding_codes.specs.declared.code.Code.{Code}
-use Rattle.finding_codes.specs.declared.code.Code.TheVariants.{OpenQuote, OpenParenthesis, ClosingParenthesis, LoneReturn, BadEscape, Nul, ByteOrderMark, ControlZ, MaxEntry, Directive, Owner, Ttl, Class, RecordType, Data, Include, NoOwner, NoTtl, OtherClass, NoSoa, TwoSoas, NoNs, NsAddress, Cname, Dname, DsApex, WildcardNs, SoaNotApex, NsBesideDname, Nsec3Wildcard, BelowDname, Outside, MaxTtl, NoOrigin, HighOctet, ControlOctet, Crlf, NestedParentheses, LeadingParenthesis, AdjacentTokens, NoFinalNewline, RelativeOrigin, SoaMinimumTtl, IncludeTtl, MissingDot, GenerateDot, EmptyUri, TlsaLength, IpseckeyAlgorithm, OhttpValue, Glue, TargetCname, TargetMissing, HostName, Cds, TtlDiffers, Duplicate, NotAtApex, KeyProtocol, KeyAlgorithm, CnameTargetMissing, CnameLoop, TwoSpf, WeakDigest, SingleNs, Hidden, NoDnskey, Expired, ExpiresSoon, NotYetValid, RrsigTimes, RrsigSigner, RrsigLabels, OriginalTtl, RrsigTtl, Unsigned, NoKey, KeyMissing, RrsigKey, SignsNothing, OccludedDnssec, NoNsec, NsecNext, NsecTypes, DsWithoutNs, NoNsec3, Nsec3Next, Nsec3Types, Nsec3Owner, Nsec3Iterations, Nsec3Iterations50, Nsec3Iterations0, NsecTtl, CdsDelete, SpfType, NaptrRegexp, NaptrBoth, CaaTag, SoaMail, SoaTimers, ReverseName, WildcardInside, TargetAddress, TxtWords, CommentInData, PtrDot, Exception, UnusedAllow}
+use Rattle.finding_codes.specs.declared.code.Code.TheVariants.{OpenQuote, OpenParenthesis, ClosingParenthesis, LoneReturn, BadEscape, Nul, ByteOrderMark, ControlZ, MaxEntry, Directive, Owner, Ttl, Class, RecordType, Data, Include, NoOwner, NoTtl, OtherClass, NoSoa, TwoSoas, NoNs, NsAddress, Cname, Dname, DsApex, WildcardNs, SoaNotApex, NsBesideDname, Nsec3Wildcard, BelowDname, Outside, MaxTtl, NoOrigin, HighOctet, ControlOctet, Crlf, NestedParentheses, LeadingParenthesis, AdjacentTokens, NoFinalNewline, RelativeOrigin, SoaMinimumTtl, IncludeTtl, MissingDot, GenerateDot, EmptyUri, TlsaLength, IpseckeyAlgorithm, OhttpValue, Glue, TargetCname, TargetMissing, HostName, Cds, TtlDiffers, Duplicate, NotAtApex, KeyProtocol, KeyAlgorithm, CnameTargetMissing, CnameLoop, TwoSpf, WeakDigest, SingleNs, Hidden, NoDnskey, Expired, ExpiresSoon, NotYetValid, RrsigTimes, RrsigSigner, RrsigLabels, OriginalTtl, RrsigTtl, Unsigned, NoKey, KeyMissing, RrsigKey, SignsNothing, OccludedDnssec, NoNsec, NsecNext, NsecTypes, DsWithoutNs, NoNsec3, Nsec3Next, Nsec3Types, Nsec3Owner, Nsec3Iterations, Nsec3Iterations50, Nsec3Iterations0, NsecTtl, CdsDelete, RrsigLength, KeyLength, SpfType, NaptrRegexp, NaptrBoth, CaaTag, SoaMail, SoaTimers, ReverseName, WildcardInside, TargetAddress, TxtWords, CommentInData, PtrDot, TlsaField, CaaValue, NullMx, ZonemdSerial, TlsaHost, SvcbAlias, Exception, UnusedAllow}
 use Rattle.finding_codes.specs.declared.code.Scope.{Scope}
 use Rattle.finding_codes.specs.declared.code.Scope.TheVariants.{Text as OfText, Records as OfRecords, MaxTtl as OfTtl, Zone as OfZone, Signed as OfSigned}
 use Rattle.finding_codes.specs.declared.code.Severity.{Severity}
@@ -153,6 +153,8 @@ finding_rows =
     finding_row Nsec3Iterations0 (codes "nsec3-iterations-0") Warning OfSigned none Whole (codes "NSEC3 has iterations: 0 is advised (RFC 9276)") ∷
     finding_row NsecTtl (codes "nsec-ttl") Warning OfSigned none Whole (codes "TTL is not the lesser of the SOA's TTL and minimum") ∷
     finding_row CdsDelete (codes "cds-delete") Error OfSigned none Whole (codes "CDS or CDNSKEY asks to delete, and another asks for keys") ∷
+    finding_row RrsigLength (codes "rrsig-length") Error OfSigned none Whole (codes "signature has another length than those of its algorithm") ∷
+    finding_row KeyLength (codes "key-length") Error OfSigned none Whole (codes "key has another length than those of its algorithm") ∷
     finding_row SpfType (codes "spf-type") Warning OfRecords none Whole (codes "type SPF, which no receiver looks up (RFC 7208): publish it as TXT") ∷
     finding_row NaptrRegexp (codes "naptr-regexp") Error OfRecords none (Field 4) (codes "not a substitution expression, as !ERE!REPLACEMENT!i") ∷
     finding_row NaptrBoth (codes "naptr-both") Warning OfRecords none (Field 5) (codes "both a regexp and a replacement") ∷
@@ -165,6 +167,12 @@ finding_rows =
     finding_row TxtWords (codes "txt-words") Warning OfRecords none (Field 0) (codes "several strings without quotes, which are joined without blanks") ∷
     finding_row CommentInData (codes "comment-in-data") Warning OfRecords none Last (codes "a comment begins inside of this word: write the text in quotes") ∷
     finding_row PtrDot (codes "ptr-dot") Warning OfRecords none Target (codes "target is in a reverse tree: write the host name with a final dot") ∷
+    finding_row TlsaField (codes "tlsa-field") Warning OfRecords none (Field 0) (codes "certificate usage is not assigned (0 to 3, 255)") ∷
+    finding_row CaaValue (codes "caa-value") Warning OfRecords none (Field 2) (codes "not a domain name with parameters, as ca.example; policy=ev") ∷
+    finding_row NullMx (codes "null-mx") Warning OfZone none Target (codes "null MX beside another MX") ∷
+    finding_row ZonemdSerial (codes "zonemd-serial") Warning OfZone none Whole (codes "serial of the ZONEMD is not that of the SOA") ∷
+    finding_row TlsaHost (codes "tlsa-host") Warning OfZone of_absence Whole (codes "host of the TLSA has no address in the zone") ∷
+    finding_row SvcbAlias (codes "svcb-alias") Warning OfZone none Target (codes "parameters of an alias (priority 0), which have no effect") ∷
     finding_row Exception (codes "exception") Error OfRecords none Whole [] ∷
     finding_row UnusedAllow (codes "unused-allow") Warning OfRecords none Whole [] ∷
     []
@@ -187,6 +195,12 @@ way_rows =
     finding_way SoaMail 1 (Field 1) (codes "mail name of the SOA has one label") ∷
     finding_way SoaTimers 1 (Field 5) (codes "expire of the SOA is less than refresh and retry together") ∷
     finding_way SoaTimers 2 (Field 6) (codes "minimum of the SOA, the TTL of negative answers, is above a day") ∷
+    finding_way TlsaField 1 (Field 1) (codes "selector is not assigned (0, 1, 255)") ∷
+    finding_way TlsaField 2 (Field 2) (codes "matching type is not assigned (0 to 2, 255)") ∷
+    finding_way CaaValue 1 (Field 2) (codes "not a URL of the schemes mailto, http and https") ∷
+    finding_way CaaValue 2 (Field 0) (codes "unknown flags: 0 or 128 is meant") ∷
+    finding_way SvcbAlias 1 Target (codes "alias (priority 0) beside others, which have no effect") ∷
+    finding_way SvcbAlias 2 Target (codes "another alias (priority 0) of the name: clients use one at random") ∷
     []
 
 abbrev pub way_seen : Way → FindingWay

@@ -260,6 +260,14 @@ pub enum Code {
     /// The record is a CDS or CDNSKEY at the apex that asks to delete DS records, and another there
     /// asks for keys (RFC 8078 section 4).
     CdsDelete,
+    /// The record is an RRSIG, and its signature has another length than those of its algorithm. With
+    /// RSA that is the length of the modulus of each DNSKEY that it fits (RFC 6605 section 4, RFC
+    /// 8080 section 4).
+    RrsigLength,
+    /// The record is a DNSKEY, and its key has another length than those of its algorithm. An RSA key
+    /// has an exponent, and a modulus of 64 to 512 octets, with algorithm 10 of 128 or more (RFC 3110
+    /// section 2, RFC 5702 section 2, RFC 6605 section 4, RFC 8080 section 3).
+    KeyLength,
     /// A record has the type SPF, which no receiver looks up.
     SpfType,
     /// The regexp of a NAPTR is not a substitution expression.
@@ -284,6 +292,18 @@ pub enum Code {
     CommentInData,
     /// The owner and the target of a PTR are in reverse trees, so the target lacks its final dot.
     PtrDot,
+    /// The certificate usage, selector or matching type of a TLSA or SMIMEA is not assigned.
+    TlsaField,
+    /// The value of a CAA has not the form that its tag asks for, or its flags are unknown.
+    CaaValue,
+    /// The exchange of an MX is the root, and its owner has another MX.
+    NullMx,
+    /// The serial of a ZONEMD is not that of the SOA.
+    ZonemdSerial,
+    /// The host of a TLSA has no address in the zone.
+    TlsaHost,
+    /// An SVCB or HTTPS in AliasMode has parameters, or is not alone.
+    SvcbAlias,
     /// An exception in a comment is malformed, or names an unknown code.
     Exception,
     /// An exception excepts no finding.

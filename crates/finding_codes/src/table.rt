@@ -66,6 +66,8 @@ const FIELD_0: Part = Part::Field(0);
 
 const FIELD_1: Part = Part::Field(1);
 
+const FIELD_2: Part = Part::Field(2);
+
 const FIELD_4: Part = Part::Field(4);
 
 const FIELD_5: Part = Part::Field(5);
@@ -126,7 +128,7 @@ macro_rules! way {
     };
 }
 
-static TABLE: [Row; 108] = [
+static TABLE: [Row; 116] = [
     row!(OpenQuote => "open-quote", Error, Text, TEXT_FAULT, WHOLE, ""),
     row!(OpenParenthesis => "open-parenthesis", Error, Text, TEXT_FAULT, WHOLE, ""),
     row!(ClosingParenthesis => "closing-parenthesis", Error, Text, TEXT_FAULT, WHOLE, ""),
@@ -221,6 +223,8 @@ static TABLE: [Row; 108] = [
     row!(Nsec3Iterations0 => "nsec3-iterations-0", Warning, Signed, NONE, WHOLE, "NSEC3 has iterations: 0 is advised (RFC 9276)"),
     row!(NsecTtl => "nsec-ttl", Warning, Signed, NONE, WHOLE, "TTL is not the lesser of the SOA's TTL and minimum"),
     row!(CdsDelete => "cds-delete", Error, Signed, NONE, WHOLE, "CDS or CDNSKEY asks to delete, and another asks for keys"),
+    row!(RrsigLength => "rrsig-length", Error, Signed, NONE, WHOLE, "signature has another length than those of its algorithm"),
+    row!(KeyLength => "key-length", Error, Signed, NONE, WHOLE, "key has another length than those of its algorithm"),
     row!(SpfType => "spf-type", Warning, Records, NONE, WHOLE, "type SPF, which no receiver looks up (RFC 7208): publish it as TXT"),
     row!(NaptrRegexp => "naptr-regexp", Error, Records, NONE, FIELD_4, "not a substitution expression, as !ERE!REPLACEMENT!i"),
     row!(NaptrBoth => "naptr-both", Warning, Records, NONE, FIELD_5, "both a regexp and a replacement"),
@@ -233,11 +237,17 @@ static TABLE: [Row; 108] = [
     row!(TxtWords => "txt-words", Warning, Records, NONE, FIELD_0, "several strings without quotes, which are joined without blanks"),
     row!(CommentInData => "comment-in-data", Warning, Records, NONE, LAST, "a comment begins inside of this word: write the text in quotes"),
     row!(PtrDot => "ptr-dot", Warning, Records, NONE, TARGET, "target is in a reverse tree: write the host name with a final dot"),
+    row!(TlsaField => "tlsa-field", Warning, Records, NONE, FIELD_0, "certificate usage is not assigned (0 to 3, 255)"),
+    row!(CaaValue => "caa-value", Warning, Records, NONE, FIELD_2, "not a domain name with parameters, as ca.example; policy=ev"),
+    row!(NullMx => "null-mx", Warning, Zone, NONE, TARGET, "null MX beside another MX"),
+    row!(ZonemdSerial => "zonemd-serial", Warning, Zone, NONE, WHOLE, "serial of the ZONEMD is not that of the SOA"),
+    row!(TlsaHost => "tlsa-host", Warning, Zone, ABSENCE, WHOLE, "host of the TLSA has no address in the zone"),
+    row!(SvcbAlias => "svcb-alias", Warning, Zone, NONE, TARGET, "parameters of an alias (priority 0), which have no effect"),
     row!(Exception => "exception", Error, Records, NONE, WHOLE, ""),
     row!(UnusedAllow => "unused-allow", Warning, Records, NONE, WHOLE, ""),
 ];
 
-static WAYS: [Way; 5] = [
+static WAYS: [Way; 11] = [
     way!(
         CaaTag,
         1,
@@ -263,17 +273,48 @@ static WAYS: [Way; 5] = [
         FIELD_6,
         "minimum of the SOA, the TTL of negative answers, is above a day"
     ),
+    way!(
+        TlsaField,
+        1,
+        FIELD_1,
+        "selector is not assigned (0, 1, 255)"
+    ),
+    way!(
+        TlsaField,
+        2,
+        FIELD_2,
+        "matching type is not assigned (0 to 2, 255)"
+    ),
+    way!(
+        CaaValue,
+        1,
+        FIELD_2,
+        "not a URL of the schemes mailto, http and https"
+    ),
+    way!(CaaValue, 2, FIELD_0, "unknown flags: 0 or 128 is meant"),
+    way!(
+        SvcbAlias,
+        1,
+        TARGET,
+        "alias (priority 0) beside others, which have no effect"
+    ),
+    way!(
+        SvcbAlias,
+        2,
+        TARGET,
+        "another alias (priority 0) of the name: clients use one at random"
+    ),
 ];
 
 /// Returns the further ways of all codes.
-pub fn ways() -> &'static [Way; 5]
+pub fn ways() -> &'static [Way; 11]
     ensures { map way_seen result.now ≡ way_rows }
 {
     &WAYS
 }
 
 /// Returns the rows of all codes, in their order.
-pub fn rows() -> &'static [Row; 108]
+pub fn rows() -> &'static [Row; 116]
     ensures { map row_seen result.now ≡ finding_rows }
 {
     &TABLE

@@ -1,4 +1,5 @@
 mod Asterisks
+mod CaaParts
 mod Found
 mod LabelEnds
 mod LabelSteps

@@ -1,3 +1,4 @@
+pub mod CaaValues
 pub mod Comments
 pub mod FoundAlone
 pub mod Labels

@@ -7,11 +7,12 @@ use Rattle.std.specs.Option.{option_map_or}
 use Rattle.dns_octets.specs.Lowered.{same_lowered}
 use Rattle.dns_wire.specs.Order.{same_name}
 use Rattle.finding_codes.specs.declared.code.Code.{Code}
-use Rattle.finding_codes.specs.declared.code.Code.TheVariants.{SpfType, NaptrRegexp, NaptrBoth, CaaTag, SoaMail, SoaTimers, ReverseName, WildcardInside, TargetAddress, TxtWords, CommentInData, PtrDot}
+use Rattle.finding_codes.specs.declared.code.Code.TheVariants.{SpfType, NaptrRegexp, NaptrBoth, CaaTag, SoaMail, SoaTimers, ReverseName, WildcardInside, TargetAddress, TxtWords, CommentInData, PtrDot, TlsaField, CaaValue}
 use Rattle.finding_codes.specs.declared.rule.Rule.{Rule}
 use Rattle.rdata_values.specs.Rtype as Rtype
 use Rattle.rdata_values.specs.declared.types.RecordType.{RecordType}
 use Rattle.rdata_fields.specs.declared.record_ref.RecordRef.{RecordRef}
+use Rattle.record_rules.specs.CaaValues.{is_issue_value, is_report_url}
 use Rattle.record_rules.specs.Comments.{has_word_at_comment}
 use Rattle.record_rules.specs.Labels.{begins_underscore, beyond_name, beyond_string, ends_in_name, has_at_sign, is_asterisk, is_divided_below, is_nibble_label, is_octet_label, beyond_passing, name_labels, leading_string}
 use Rattle.record_rules.specs.Substitutions.{is_substitution}
@@ -65,6 +66,41 @@ has_critical_tag octets = not (is_known_tag (caa_tag octets)) && is_critical oct
 
 abbrev pub has_capital_tag : List ℕ → Bool
 has_capital_tag octets = is_known_tag (caa_tag octets) && has_capital (caa_tag octets)
+
+-- the value
+abbrev pub caa_value : List ℕ → List ℕ
+caa_value octets = beyond_string (drop 1 octets)
+
+-- the tags whose value names an issuer (RFC 8659 sections 4.2 and 4.3, RFC 9495)
+abbrev pub is_issue_tag : List ℕ → Bool
+is_issue_tag tag = same_lowered tag (codes "issue") || (same_lowered tag (codes "issuewild") || (same_lowered tag (codes "issuemail") || same_lowered tag (codes "issuevmc")))
+
+-- the value of such a tag is not one of the grammar; that of iodef is not a URL of mailto, http or https (section 4.4)
+abbrev pub has_bad_issuer : List ℕ → Bool
+has_bad_issuer octets = is_issue_tag (caa_tag octets) && not (is_issue_value (caa_value octets))
+
+abbrev pub has_bad_report : List ℕ → Bool
+has_bad_report octets = same_lowered (caa_tag octets) (codes "iodef") && not (is_report_url (caa_value octets))
+
+-- a flag that is not assigned: all but the highest bit (section 4.1)
+abbrev pub has_unknown_flags : List ℕ → Bool
+has_unknown_flags octets = option_map_or (λ flags. not (flags == 0) && not (flags == 128)) (slice_get octets 0) false
+
+abbrev pub has_bad_value : (way : ℕ) → List ℕ → Bool
+has_bad_value way octets = if way == 0 then has_bad_issuer octets else if way == 1 then has_bad_report octets else has_unknown_flags octets
+
+-- ---- TLSA (RFC 6698 section 2.1) and SMIMEA (RFC 8162 section 2): a certificate usage, a selector, a matching type, data
+
+abbrev pub is_association_type : RecordType → Bool
+is_association_type rtype = rtype == Rtype.tlsa || rtype == Rtype.smimea
+
+-- the octet at an offset is above the greatest that is assigned, and not 255, which is for private use
+abbrev pub has_unassigned : (offset greatest : ℕ) → List ℕ → Bool
+has_unassigned offset greatest octets = option_map_or (λ o. nat_lt greatest o && not (o == 255)) (slice_get octets offset) false
+
+-- usages are assigned up to 3, selectors up to 1, matching types up to 2 (RFC 6698 sections 7.2 to 7.4)
+abbrev pub has_bad_association : (way : ℕ) → List ℕ → Bool
+has_bad_association way octets = if way == 0 then has_unassigned 0 3 octets else if way == 1 then has_unassigned 1 1 octets else has_unassigned 2 2 octets
 
 -- ---- SOA (RFC 1035 section 3.3.13): two names, a serial, refresh, retry, expire, minimum
 
@@ -223,6 +259,8 @@ breaks_alone TargetAddress way owner rtype octets text = has_address_target owne
 breaks_alone TxtWords way owner rtype octets text = rtype == Rtype.txt && (option_map_or (λ w. not w.has_quotes) text false && has_version_words octets)
 breaks_alone CommentInData way owner rtype octets text = is_text_type rtype && option_map_or (λ w. has_word_at_comment w.last.now) text false
 breaks_alone PtrDot way owner rtype octets text = rtype == Rtype.ptr && lacks_final_dot (name_labels owner) (name_labels octets)
+breaks_alone TlsaField way owner rtype octets text = is_association_type rtype && has_bad_association way octets
+breaks_alone CaaValue way owner rtype octets text = rtype == Rtype.caa && (has_bad_value way octets && not (option_map_or (λ w. has_word_at_comment w.last.now) text false))
 breaks_alone _ way owner rtype octets text = false
 
 -- the same, of a record whose octets are borrowed

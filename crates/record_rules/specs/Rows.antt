@@ -4,6 +4,7 @@ use Rattle.rdata_fields.specs.declared.record_ref.RecordRef.{RecordRef}
 use Rattle.rdata_values.specs.Rtype as Rtype
 use Rattle.rdata_values.specs.declared.types.RecordType.{RecordType}
 use Rattle.dns_wire.specs.Wire.{wire}
+use Rattle.record_rules.specs.CaaValues.{is_issue_value, is_report_url, padded_word}
 use Rattle.record_rules.specs.Comments.{has_word_at_comment}
 use Rattle.record_rules.specs.FoundAlone.{found_alone}
 use Rattle.record_rules.specs.Labels.{beyond_name, is_octet_label, last_two, name_labels}
@@ -12,7 +13,7 @@ use Rattle.record_rules.specs.Substitutions.{group_count, is_substitution}
 use Rattle.record_rules.specs.declared.regexp.Spot.TheVariants.{Plain}
 use Rattle.finding_codes.specs.Rule.{coded_rule}
 use Rattle.finding_codes.specs.declared.code.Code.{Code}
-use Rattle.finding_codes.specs.declared.code.Code.TheVariants.{SpfType, NaptrRegexp, NaptrBoth, CaaTag, SoaMail, SoaTimers, ReverseName, WildcardInside, TargetAddress, TxtWords, CommentInData, PtrDot}
+use Rattle.finding_codes.specs.declared.code.Code.TheVariants.{SpfType, NaptrRegexp, NaptrBoth, CaaTag, SoaMail, SoaTimers, ReverseName, WildcardInside, TargetAddress, TxtWords, CommentInData, PtrDot, TlsaField, CaaValue}
 use Rattle.finding_codes.specs.declared.rule.Rule.{Rule}
 use Rattle.record_rules.specs.declared.written.Written.{Written}
 
@@ -404,6 +405,185 @@ two_stars_row = refl
 part_star_row : broken_at (coded_rule WildcardInside 0) (codes "b" ∷ under (codes "a*")) Rtype.a [] ≡ false
 unfolding name_labels
 part_star_row = refl
+
+-- ---- values of CAA: the examples of RFC 8659 section 4 and RFC 9495 section 6, and near to them
+
+no_issuer_row : is_issue_value (codes ";") ≡ true
+no_issuer_row = refl
+
+empty_issuer_row : is_issue_value ([]) ≡ true
+empty_issuer_row = refl
+
+issuer_row : is_issue_value (codes "ca1.example.net") ≡ true
+issuer_row = refl
+
+account_row : is_issue_value (codes "ca1.example.net; account=230123") ≡ true
+account_row = refl
+
+percent_row : is_issue_value (codes "%%%%%") ≡ false
+percent_row = refl
+
+policy_row : is_issue_value (codes "ca1.example.net; policy=ev") ≡ true
+policy_row = refl
+
+wsp_row : is_issue_value (9 ∷ 32 ∷ codes " ca1.example.net ;a = b;c=d ") ≡ true
+wsp_row = refl
+
+parameters_alone_row : is_issue_value (codes "; account=230123") ≡ true
+parameters_alone_row = refl
+
+empty_parameter_value_row : is_issue_value (codes "ca1.example.net; a=") ≡ true
+empty_parameter_value_row = refl
+
+last_semicolon_row : is_issue_value (codes "ca1.example.net; a=b;") ≡ true
+last_semicolon_row = refl
+
+two_semicolons_row : is_issue_value (codes "ca1.example.net;; a=b") ≡ false
+two_semicolons_row = refl
+
+no_equals_row : is_issue_value (codes "ca1.example.net; account") ≡ false
+no_equals_row = refl
+
+no_parameter_tag_row : is_issue_value (codes "ca1.example.net; =b") ≡ false
+no_parameter_tag_row = refl
+
+words_in_value_row : is_issue_value (codes "ca1.example.net; a=b c") ≡ false
+words_in_value_row = refl
+
+equals_in_value_row : is_issue_value (codes "ca1.example.net; a=b=c") ≡ true
+equals_in_value_row = refl
+
+last_dot_row : is_issue_value (codes "ca1.example.net.") ≡ false
+last_dot_row = refl
+
+underscore_row : is_issue_value (codes "ca1_example.net") ≡ false
+underscore_row = refl
+
+first_hyphen_row : is_issue_value (codes "-ca1.example.net") ≡ false
+first_hyphen_row = refl
+
+last_hyphen_row : is_issue_value (codes "ca1-.example.net") ≡ false
+last_hyphen_row = refl
+
+inner_hyphens_row : is_issue_value (codes "c--a.example.net") ≡ true
+inner_hyphens_row = refl
+
+two_issuers_row : is_issue_value (codes "ca1.example.net ca2.example.org") ≡ false
+two_issuers_row = refl
+
+commas_row : is_issue_value (codes "ca1.example.net, ca2.example.org") ≡ false
+commas_row = refl
+
+url_as_issuer_row : is_issue_value (codes "https://ca1.example.net/") ≡ false
+url_as_issuer_row = refl
+
+high_octet_row : is_issue_value (195 ∷ 164 ∷ codes ".example") ≡ false
+high_octet_row = refl
+
+mail_url_row : is_report_url (codes "mailto:security@example.com") ≡ true
+mail_url_row = refl
+
+http_url_row : is_report_url (codes "http://iodef.example.com/") ≡ true
+http_url_row = refl
+
+https_url_row : is_report_url (codes "HTTPS://iodef.example.com/") ≡ true
+https_url_row = refl
+
+no_scheme_row : is_report_url (codes "security@example.com") ≡ false
+no_scheme_row = refl
+
+no_at_sign_row : is_report_url (codes "mailto:security") ≡ false
+no_at_sign_row = refl
+
+no_local_part_row : is_report_url (codes "mailto:@example.com") ≡ false
+no_local_part_row = refl
+
+other_scheme_row : is_report_url (codes "ftp://example.com/") ≡ false
+other_scheme_row = refl
+
+scheme_alone_row : is_report_url (codes "http://") ≡ false
+scheme_alone_row = refl
+
+no_url_row : is_report_url ([]) ≡ false
+no_url_row = refl
+
+word_between_row : padded_word (codes "  a ") ≡ Some (codes "a")
+word_between_row = refl
+
+two_words_row : padded_word (codes " a b ") ≡ None
+two_words_row = refl
+
+abbrev caa_with : ℕ → List ℕ → List ℕ → List ℕ
+caa_with flags tag value = flags ∷ (text tag ++ value)
+
+bad_issue_row : broken (coded_rule CaaValue 0) Rtype.caa (caa_with 0 (codes "issue") (codes "%%%%%")) ≡ true
+bad_issue_row = refl
+
+bad_issuemail_row : broken (coded_rule CaaValue 0) Rtype.caa (caa_with 0 (codes "IssueMail") (codes "%%%%%")) ≡ true
+bad_issuemail_row = refl
+
+good_issuewild_row : broken (coded_rule CaaValue 0) Rtype.caa (caa_with 0 (codes "issuewild") (codes ";")) ≡ false
+good_issuewild_row = refl
+
+other_tag_row : broken (coded_rule CaaValue 0) Rtype.caa (caa_with 0 (codes "contactphone") (codes "+1 555 0100")) ≡ false
+other_tag_row = refl
+
+bad_iodef_row : broken (coded_rule CaaValue 1) Rtype.caa (caa_with 0 (codes "iodef") (codes "security@example.com")) ≡ true
+bad_iodef_row = refl
+
+issue_is_no_url_row : broken (coded_rule CaaValue 1) Rtype.caa (caa_with 0 (codes "issue") (codes "ca1.example.net")) ≡ false
+issue_is_no_url_row = refl
+
+flag_one_row : broken (coded_rule CaaValue 2) Rtype.caa (caa_with 1 (codes "issue") (codes ";")) ≡ true
+flag_one_row = refl
+
+critical_flag_row : broken (coded_rule CaaValue 2) Rtype.caa (caa_with 128 (codes "issue") (codes ";")) ≡ false
+critical_flag_row = refl
+
+commented_value_row : breaks_alone CaaValue 0 (wire apex) Rtype.caa (caa_with 0 (codes "issue") (codes "ca_1")) (Some (record { has_quotes = false; last = record { ref_ptr = (0, 0); now = codes "ca_1;a=b" } })) ≡ false
+commented_value_row = refl
+
+-- ---- TLSA and SMIMEA
+
+-- a certificate usage, a selector, a matching type, and some data
+abbrev tlsa : ℕ → ℕ → ℕ → List ℕ
+tlsa usage selector matching = usage ∷ selector ∷ matching ∷ 171 ∷ 205 ∷ []
+
+assigned_row : broken (coded_rule TlsaField 0) Rtype.tlsa (tlsa 3 1 1) ≡ false
+assigned_row = refl
+
+fourth_usage_row : broken (coded_rule TlsaField 0) Rtype.tlsa (tlsa 4 1 1) ≡ true
+fourth_usage_row = refl
+
+usage_alone_row : broken (coded_rule TlsaField 1) Rtype.tlsa (tlsa 4 1 1) ≡ false
+usage_alone_row = refl
+
+private_usage_row : broken (coded_rule TlsaField 0) Rtype.tlsa (tlsa 255 1 1) ≡ false
+private_usage_row = refl
+
+greatest_selector_row : broken (coded_rule TlsaField 1) Rtype.tlsa (tlsa 3 1 2) ≡ false
+greatest_selector_row = refl
+
+second_selector_row : broken (coded_rule TlsaField 1) Rtype.smimea (tlsa 3 2 1) ≡ true
+second_selector_row = refl
+
+private_selector_row : broken (coded_rule TlsaField 1) Rtype.tlsa (tlsa 3 255 1) ≡ false
+private_selector_row = refl
+
+greatest_matching_row : broken (coded_rule TlsaField 2) Rtype.tlsa (tlsa 3 1 2) ≡ false
+greatest_matching_row = refl
+
+third_matching_row : broken (coded_rule TlsaField 2) Rtype.tlsa (tlsa 3 1 3) ≡ true
+third_matching_row = refl
+
+private_matching_row : broken (coded_rule TlsaField 2) Rtype.tlsa (tlsa 3 1 255) ≡ false
+private_matching_row = refl
+
+other_association_row : broken (coded_rule TlsaField 0) Rtype.cert (tlsa 4 1 1) ≡ false
+other_association_row = refl
+
+short_association_row : broken (coded_rule TlsaField 2) Rtype.tlsa (3 ∷ 1 ∷ []) ≡ false
+short_association_row = refl
 
 -- ---- final dots of targets in reverse trees
 

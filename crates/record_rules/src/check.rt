@@ -4,9 +4,9 @@ ghost use Rattle.arrayvec.specs.ArrayVec.{array_vec_len};
 ghost use Rattle.std.specs.Option.{option_map_or};
 ghost use Rattle.record_rules.specs.Comments.{has_word_at_comment};
 ghost use Rattle.record_rules.specs.FoundAlone.{found_alone, ListsRulesOf};
-ghost use Rattle.record_rules.specs.LoneRules.{begins_version, breaks_record_rule, has_bad_mail, has_bad_tag, has_bad_timer, has_version_words, is_text_type};
+ghost use Rattle.record_rules.specs.LoneRules.{begins_version, breaks_record_rule, has_bad_mail, has_bad_tag, has_bad_timer, has_version_words, is_association_type, is_text_type};
 
-use crate::caa::{has_capital_tag, has_critical_tag, has_unknown_tag};
+use crate::caa::{has_bad_value, has_capital_tag, has_critical_tag, has_unknown_tag};
 use crate::comments::has_word_at_comment;
 use crate::labels::{after_string, first_string};
 use crate::names::{has_address_target, has_inner_asterisk, is_bad_reverse, lacks_final_dot};
@@ -14,6 +14,7 @@ use crate::naptr::{has_bad_expression, has_two_results};
 use crate::soa::{
     has_early_expire, has_late_retry, has_long_minimum, has_mail_sign, has_one_mail_label,
 };
+use crate::tlsa::has_bad_association;
 use crate::written::Written;
 use arrayvec::ArrayVec;
 use finding_codes::code::Code;
@@ -23,7 +24,7 @@ use rdata_fields::RecordRef;
 use rdata_values::RecordType;
 
 /// All rules, in the order in which they are checked.
-pub static LONE_RULES: [Rule; 17] = [
+pub static LONE_RULES: [Rule; 23] = [
     rule!(SpfType, 0),
     rule!(NaptrRegexp, 0),
     rule!(NaptrBoth, 0),
@@ -41,6 +42,12 @@ pub static LONE_RULES: [Rule; 17] = [
     rule!(TxtWords, 0),
     rule!(CommentInData, 0),
     rule!(PtrDot, 0),
+    rule!(TlsaField, 0),
+    rule!(TlsaField, 1),
+    rule!(TlsaField, 2),
+    rule!(CaaValue, 0),
+    rule!(CaaValue, 1),
+    rule!(CaaValue, 2),
 ];
 
 /// Those for a record of any type.
@@ -76,12 +83,15 @@ static RULES_OF_NAPTR: [Rule; 3] = [
 ];
 
 /// Those for a CAA.
-static RULES_OF_CAA: [Rule; 5] = [
+static RULES_OF_CAA: [Rule; 8] = [
     rule!(CaaTag, 0),
     rule!(CaaTag, 1),
     rule!(CaaTag, 2),
     rule!(WildcardInside, 0),
     rule!(CommentInData, 0),
+    rule!(CaaValue, 0),
+    rule!(CaaValue, 1),
+    rule!(CaaValue, 2),
 ];
 
 /// Those for an SOA.
@@ -92,6 +102,14 @@ static RULES_OF_SOA: [Rule; 6] = [
     rule!(SoaTimers, 1),
     rule!(SoaTimers, 2),
     rule!(WildcardInside, 0),
+];
+
+/// Those for a TLSA or SMIMEA.
+static RULES_OF_TLSA: [Rule; 4] = [
+    rule!(WildcardInside, 0),
+    rule!(TlsaField, 0),
+    rule!(TlsaField, 1),
+    rule!(TlsaField, 2),
 ];
 
 /// Returns the rules that a record of a type may break, in the order of [`LONE_RULES`].
@@ -106,6 +124,7 @@ fn rules_of(rtype: RecordType) -> &'static [Rule]
         RecordType::NAPTR => &RULES_OF_NAPTR,
         RecordType::CAA => &RULES_OF_CAA,
         RecordType::SOA => &RULES_OF_SOA,
+        RecordType::TLSA | RecordType::SMIMEA => &RULES_OF_TLSA,
         _ => &RULES_OF_ANY,
     }
 }
@@ -187,6 +206,13 @@ fn has_bad_timer(way: u8, data: &[u8]) -> bool
     }
 }
 
+/// Returns whether records of a type associate certificates with a name.
+fn is_association_type(rtype: RecordType) -> bool
+    ensures { result ≡ is_association_type rtype }
+{
+    matches!(rtype, RecordType::TLSA | RecordType::SMIMEA)
+}
+
 /// Returns whether a record breaks a rule.
 ///
 /// Some rules depend on how the RDATA was written. If that is not known, as for RDATA from a
@@ -210,6 +236,14 @@ pub fn breaks_rule(rule: Rule, record: &RecordRef<'_>, written: Option<Written<'
         }
         Code::CommentInData => is_text_type(rtype) && ends_at_comment(written),
         Code::PtrDot => rtype == RecordType::PTR && lacks_final_dot(record.owner, record.data),
+        Code::TlsaField => {
+            is_association_type(rtype) && has_bad_association(rule.way, record.data)
+        }
+        Code::CaaValue => {
+            rtype == RecordType::CAA
+                && has_bad_value(rule.way, record.data)
+                && !ends_at_comment(written)
+        }
         _ => false,
     }
 }

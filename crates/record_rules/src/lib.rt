@@ -2,6 +2,7 @@
 #![tactic(auto)]
 
 mod caa;
+mod caa_values;
 mod check;
 mod comments;
 mod labels;
@@ -10,6 +11,7 @@ mod names;
 mod naptr;
 mod regexp;
 mod soa;
+mod tlsa;
 mod written;
 
 pub use check::{LONE_RULES, breaks_rule, broken_rules};

@@ -7,7 +7,7 @@ use Rattle.std.proofs.lemmas.Bool.Decides.{nat_tests}
 use Rattle.dns_wire.specs.Order.{same_name}
 use Rattle.finding_codes.specs.Rule.{coded_rule}
 use Rattle.finding_codes.specs.declared.code.Code.{Code}
-use Rattle.finding_codes.specs.declared.code.Code.TheVariants.{Outside, TwoSoas, NsAddress, Cname, BelowDname, WildcardNs, SoaNotApex, NsBesideDname, HostName, DsWithoutNs, NotAtApex, KeyProtocol, KeyAlgorithm, CnameTargetMissing, CnameLoop, TwoSpf, WeakDigest, SingleNs, TtlDiffers, Duplicate, Dname, DsApex, Nsec3Wildcard, Glue, TargetCname, TargetMissing, Cds}
+use Rattle.finding_codes.specs.declared.code.Code.TheVariants.{Outside, TwoSoas, NsAddress, Cname, BelowDname, WildcardNs, SoaNotApex, NsBesideDname, HostName, DsWithoutNs, NotAtApex, KeyProtocol, KeyAlgorithm, CnameTargetMissing, CnameLoop, TwoSpf, WeakDigest, SingleNs, TtlDiffers, Duplicate, Dname, DsApex, Nsec3Wildcard, Glue, TargetCname, TargetMissing, Cds, NullMx, ZonemdSerial, TlsaHost, SvcbAlias}
 use Rattle.finding_codes.specs.declared.rule.Rule.{Rule}
 use Rattle.rdata_values.specs.Rtype as Rtype
 use Rattle.rdata_values.specs.declared.types.RecordType.{RecordType}
@@ -17,7 +17,7 @@ use Rattle.zone_record.specs.Records.{data_of}
 use Rattle.zone_record.specs.declared.record.Record.{Record}
 use Rattle.zone_rules.specs.Above.{is_below, is_wildcard}
 use Rattle.zone_rules.specs.Findings.{found_at, found_if, found_of, record_rules}
-use Rattle.zone_rules.specs.Rules.{breaks, breaks_in_way, is_apex_type}
+use Rattle.zone_rules.specs.Rules.{breaks, breaks_in_way, is_apex_type, is_service_type}
 use Rattle.zone_rules.specs.RulesByType.{has_host_field, may_break, may_break_code, HasRulesOf}
 use Rattle.zone_rules.specs.Subjects.{alike}
 use Rattle.zone_rules.specs.Zones.{as_listed, but_root, host_field, host_of, is_equal_record, record_before, type_of}
@@ -73,6 +73,10 @@ other_in_way CnameLoop way origin records refused b r h = refl
 other_in_way TwoSpf way origin records refused b r h = refl
 other_in_way WeakDigest way origin records refused b r h = refl
 other_in_way SingleNs way origin records refused b r h = refl
+other_in_way NullMx way origin records refused b r h = refl
+other_in_way ZonemdSerial way origin records refused b r h = refl
+other_in_way TlsaHost way origin records refused b r h = refl
+other_in_way SvcbAlias way origin records refused b r h = refl
 other_in_way TtlDiffers way origin records refused b r h = sym (not_one_set (same_name b.owner r.owner) (b.class == r.class) (type_of b == type_of r) _ _ h)
 other_in_way Duplicate way origin records refused b r h = sym (not_equal b r (type_of b == type_of r) (same_name b.owner r.owner) refl refl h)
 other_in_way _ way origin records refused b r h = refl
@@ -142,6 +146,14 @@ either_way : (b x y : Bool) → x ≡ false → y ≡ false → (if b then x els
 either_way true x y h k = h
 either_way false x y h k = k
 
+neither_is : (p q : Bool) → (p || q) ≡ false → (p ≡ false) × (q ≡ false)
+neither_is true q h = cc
+neither_is false q h = (refl, h)
+
+both_no : (p q : Bool) → p ≡ false → q ≡ false → (p || q) ≡ false
+both_no true q h k = cc
+both_no false q h k = k
+
 none_in_way : {N O M P : Type 0} (code : Code) (way : ℕ) (origin : List (List ℕ)) (records : List (Record N O)) (refused : List RrsetName) (before : Option (Record M P)) (r : Record M P) → may_break_code (type_of r) code ≡ false
     → breaks_in_way code way origin records refused before r ≡ false
 none_in_way Outside way origin records refused before r h = cc
@@ -159,7 +171,9 @@ none_in_way NsBesideDname way origin records refused before r h = first_false _ 
 none_in_way Nsec3Wildcard way origin records refused before r h = first_false _ _ h
 none_in_way Glue way origin records refused before r h = first_false _ _ h
 none_in_way TargetCname way origin records refused before r h = either_way (way == 0) _ _ (names_none _ r h) (names_none _ r h)
-none_in_way TargetMissing way origin records refused before r h = second_no _ _ (second_no (r.class == _) _ (names_none _ r h))
+none_in_way TargetMissing way origin records refused before r h =
+    let no = neither_is (has_host_field (type_of r)) (is_service_type (type_of r)) h in
+    both_no _ _ (second_no _ _ (second_no (r.class == _) _ (names_none _ r no.0))) (no_target _ _ _ no.1)
 none_in_way HostName way origin records refused before r h = cc
 none_in_way Cds way origin records refused before r h = first_false _ _ h
 none_in_way DsWithoutNs way origin records refused before r h = first_false _ _ h
@@ -171,6 +185,10 @@ none_in_way CnameLoop way origin records refused before r h = first_false _ _ h
 none_in_way TwoSpf way origin records refused before r h = both_first _ _ _ h
 none_in_way WeakDigest way origin records refused before r h = first_false _ _ h
 none_in_way SingleNs way origin records refused before r h = first_false _ _ h
+none_in_way NullMx way origin records refused before r h = both_first _ _ _ h
+none_in_way ZonemdSerial way origin records refused before r h = both_first _ _ _ h
+none_in_way TlsaHost way origin records refused before r h = second_no (r.class == _) _ (no_target _ _ _ h)
+none_in_way SvcbAlias way origin records refused before r h = both_first _ _ _ h
 none_in_way TtlDiffers way origin records refused before r h = cc
 none_in_way Duplicate way origin records refused before r h = cc
 none_in_way _ way origin records refused before r h = refl
@@ -193,8 +211,11 @@ any_rules = coded_rule Outside 0 ∷ coded_rule BelowDname 0 ∷ coded_rule Host
 abbrev pub ns_rules : List Rule
 ns_rules = coded_rule Outside 0 ∷ coded_rule NsAddress 0 ∷ coded_rule BelowDname 0 ∷ coded_rule WildcardNs 0 ∷ coded_rule Glue 0 ∷ coded_rule TargetCname 0 ∷ coded_rule TargetCname 1 ∷ coded_rule TargetMissing 0 ∷ coded_rule HostName 0 ∷ coded_rule SingleNs 0 ∷ coded_rule TtlDiffers 0 ∷ coded_rule Duplicate 0 ∷ []
 
-abbrev pub host_rules : List Rule
-host_rules = coded_rule Outside 0 ∷ coded_rule BelowDname 0 ∷ coded_rule TargetCname 0 ∷ coded_rule TargetCname 1 ∷ coded_rule TargetMissing 0 ∷ coded_rule HostName 0 ∷ coded_rule TtlDiffers 0 ∷ coded_rule Duplicate 0 ∷ []
+abbrev pub mx_rules : List Rule
+mx_rules = coded_rule Outside 0 ∷ coded_rule BelowDname 0 ∷ coded_rule TargetCname 0 ∷ coded_rule TargetCname 1 ∷ coded_rule TargetMissing 0 ∷ coded_rule HostName 0 ∷ coded_rule NullMx 0 ∷ coded_rule TtlDiffers 0 ∷ coded_rule Duplicate 0 ∷ []
+
+abbrev pub srv_rules : List Rule
+srv_rules = coded_rule Outside 0 ∷ coded_rule BelowDname 0 ∷ coded_rule TargetCname 0 ∷ coded_rule TargetCname 1 ∷ coded_rule TargetMissing 0 ∷ coded_rule HostName 0 ∷ coded_rule TtlDiffers 0 ∷ coded_rule Duplicate 0 ∷ []
 
 abbrev pub cname_rules : List Rule
 cname_rules = coded_rule Outside 0 ∷ coded_rule Cname 0 ∷ coded_rule BelowDname 0 ∷ coded_rule HostName 0 ∷ coded_rule CnameTargetMissing 0 ∷ coded_rule CnameLoop 0 ∷ coded_rule TtlDiffers 0 ∷ coded_rule Duplicate 0 ∷ []

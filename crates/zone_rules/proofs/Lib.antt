@@ -17,5 +17,6 @@ pub mod SharedNames
 pub mod Steps
 pub mod Subjects
 mod ToldRules
+pub mod TransportNames
 pub mod Wildcards
 pub mod Within

@@ -21,6 +21,7 @@ use Rattle.zone_record.specs.CanonicalRecords.{record_order}
 use Rattle.zone_record.proofs.Orders.{names_total}
 use Rattle.zone_record.specs.CanonicalData.{record_key}
 use Rattle.zone_record.specs.declared.record.Record.{Record}
+use Rattle.zone_record.proofs.OrderTests.{is_tied, less_not_tied}
 use Rattle.zone_rules.specs.Searches.{AreOwnedFrom}
 use Rattle.zone_rules.specs.Zones.{AreInOrder, has_type_among, has_type_at, type_of}
 
@@ -169,16 +170,6 @@ reaches_further few long twice next less fits t n =
 
 -- ---- the records that a name owns
 
-equal_of : (o : Ordering) → is_lt o ≡ false → is_le o ≡ true → is_eq o ≡ true
-equal_of Less h k = cc
-equal_of Equal h k = refl
-equal_of Greater h k = cc
-
-before_not : (o : Ordering) → is_lt o ≡ true → is_eq o ≡ false
-before_not Less h = refl
-before_not Equal h = cc
-before_not Greater h = refl
-
 behind_not : (o : Ordering) → is_le o ≡ false → is_eq o ≡ false
 behind_not Less h = refl
 behind_not Equal h = cc
@@ -195,11 +186,11 @@ module _ {N O : Type 0} (name : List (List ℕ)) where
   owned_of rs from count within few h k =
       sym (filter_front owns (drop from rs) count
       (λ i d low lt. same_is (get_or (drop from rs) i d).owner name
-      ∙ equal_of (name_order (get_or (drop from rs) i d).owner name)
+      ∙ is_tied (name_order (get_or (drop from rs) i d).owner name)
       (ap (λ r. is_lt (name_order r.owner name)) (get_or-drop from rs i d) ∙ h.1 (from + i) d (omega arith) (omega (arith, length-drop from rs)))
       (k.0 i d low lt))
       (λ i d low lt. same_is (get_or (drop from rs) i d).owner name ∙ behind_not (name_order (get_or (drop from rs) i d).owner name) (k.1 i d low lt)))
-      ∙ filter_behind owns rs from (λ i d low lt. same_is (get_or rs i d).owner name ∙ before_not (name_order (get_or rs i d).owner name) (h.0 i d low lt))
+      ∙ filter_behind owns rs from (λ i d low lt. same_is (get_or rs i d).owner name ∙ less_not_tied (name_order (get_or rs i d).owner name) (h.0 i d low lt))
 
   pub owned_slice : (rs rest : List (Record N O)) (from count : ℕ) → from ≤ length rs → count ≤ length rest → rest ≡ take (length rs - from) (drop from rs)
       → IsPartitionPoint (λ r. is_lt (name_order r.owner name) ≡ true) (λ r. is_lt (name_order r.owner name) ≡ false) rs from
@@ -223,10 +214,10 @@ module _ {N O : Type 0} (name : List (List ℕ)) where
       record {
         parts = h;
         bound = omega (arith, few, long);
-        before = λ i d low lt. same_is (get_or rs i d).owner name ∙ before_not (name_order (get_or rs i d).owner name) (h.0 i d low lt);
+        before = λ i d low lt. same_is (get_or rs i d).owner name ∙ less_not_tied (name_order (get_or rs i d).owner name) (h.0 i d low lt);
         owned = λ i d low lt.
             same_is (get_or rs i d).owner name
-            ∙ equal_of (name_order (get_or rs i d).owner name) (h.1 i d low (omega (arith, lt, few, long)))
+            ∙ is_tied (name_order (get_or rs i d).owner name) (h.1 i d low (omega (arith, lt, few, long)))
             (ap (λ r. is_le (name_order r.owner name)) (sym (at i d low)) ∙ point.0 (i - first) d (omega arith) (omega (arith, low, lt)));
         after = λ i d low lt.
             same_is (get_or rs i d).owner name
@@ -244,8 +235,8 @@ module _ {N O : Type 0} (name : List (List ℕ)) where
   owned_places rs first past bound h k = record {
     parts = h;
     bound = bound;
-    before = λ i d low lt. same_is (get_or rs i d).owner name ∙ before_not (name_order (get_or rs i d).owner name) (h.0 i d low lt);
-    owned = λ i d low lt. same_is (get_or rs i d).owner name ∙ equal_of (name_order (get_or rs i d).owner name) (h.1 i d low (omega (arith, lt, bound))) (k.0 i d (omega arith) lt);
+    before = λ i d low lt. same_is (get_or rs i d).owner name ∙ less_not_tied (name_order (get_or rs i d).owner name) (h.0 i d low lt);
+    owned = λ i d low lt. same_is (get_or rs i d).owner name ∙ is_tied (name_order (get_or rs i d).owner name) (h.1 i d low (omega (arith, lt, bound))) (k.0 i d (omega arith) lt);
     after = λ i d low lt. same_is (get_or rs i d).owner name ∙ behind_not (name_order (get_or rs i d).owner name) (k.1 i d low lt);
   }
 

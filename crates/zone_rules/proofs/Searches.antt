@@ -15,6 +15,7 @@ use Rattle.std.proofs.lemmas.List.Sorted.{searchable_from_sorted, IsPartitionedB
 use Rattle.dns_wire.specs.Order.{same_name}
 use Rattle.zone_record.specs.Names.{name_order}
 use Rattle.zone_record.proofs.Orders.{names_total}
+use Rattle.zone_record.proofs.OrderTests.{is_tied, less_not_tied, tied_le}
 use Rattle.zone_rules.specs.Present.{set_order}
 use Rattle.zone_rules.specs.declared.refused.RrsetName.{RrsetName}
 use Rattle.zone_rules.proofs.Lookups.{same_is}
@@ -60,21 +61,6 @@ back_not Less back e h = ap is_lt e
 back_not Equal back e h = ap is_lt e
 back_not Greater back e h = cc
 
-is_tied : (o : Ordering) → is_lt o ≡ false → is_le o ≡ true → is_eq o ≡ true
-is_tied Less h k = cc
-is_tied Equal h k = refl
-is_tied Greater h k = cc
-
-tied_not_less : (o : Ordering) → is_lt o ≡ true → is_eq o ≡ false
-tied_not_less Less h = refl
-tied_not_less Equal h = cc
-tied_not_less Greater h = cc
-
-tied_le : (o : Ordering) → is_eq o ≡ true → is_le o ≡ true
-tied_le Less h = refl
-tied_le Equal h = refl
-tied_le Greater h = cc
-
 number_tied : (m n : ℕ) → (m == n) ≡ is_eq (nat_cmp m n)
 number_tied m n = grind (arith, nat_tests)
 
@@ -119,7 +105,7 @@ module _ {X : Type 0} (set_of : X → RrsetName) (name : List (List ℕ)) (rtype
       → list_any is_wanted xs ≡ option_map_or is_wanted (slice_get xs place) false
   set_found xs place h point =
       any_at is_wanted xs place
-      (λ i d low lt. wanted_is (get_or xs i d) ∙ tied_not_less (set_order (set_of (get_or xs i d)) wanted) (point.0 i d low lt))
+      (λ i d low lt. wanted_is (get_or xs i d) ∙ less_not_tied (set_order (set_of (get_or xs i d)) wanted) (point.0 i d low lt))
       (λ i d low lt t.
       wanted_is (get_or xs place d)
       ∙ is_tied (set_order (set_of (get_or xs place d)) wanted) (point.1 place d (omega arith) (omega (arith, low, lt)))

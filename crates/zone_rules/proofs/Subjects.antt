@@ -6,7 +6,7 @@ use Rattle.std.specs.Option.{option_map, option_map_or}
 use Rattle.std.proofs.lemmas.Bool.{cases_lt, false≢true, or_left, or_right}
 use Rattle.std.proofs.lemmas.Option.{slice_get-get_or}
 use Rattle.finding_codes.specs.declared.code.Code.{Code}
-use Rattle.finding_codes.specs.declared.code.Code.TheVariants.{Outside, TwoSoas, NsAddress, Cname, BelowDname, WildcardNs, SoaNotApex, NsBesideDname, HostName, DsWithoutNs, NotAtApex, KeyProtocol, KeyAlgorithm, CnameTargetMissing, CnameLoop, TwoSpf, WeakDigest, SingleNs, TtlDiffers, Duplicate, Dname, DsApex, Nsec3Wildcard, Glue, TargetCname, TargetMissing, Cds}
+use Rattle.finding_codes.specs.declared.code.Code.TheVariants.{Outside, TwoSoas, NsAddress, Cname, BelowDname, WildcardNs, SoaNotApex, NsBesideDname, HostName, DsWithoutNs, NotAtApex, KeyProtocol, KeyAlgorithm, CnameTargetMissing, CnameLoop, TwoSpf, WeakDigest, SingleNs, TtlDiffers, Duplicate, Dname, DsApex, Nsec3Wildcard, Glue, TargetCname, TargetMissing, Cds, NullMx, ZonemdSerial, TlsaHost, SvcbAlias}
 use Rattle.finding_codes.specs.declared.rule.Rule.{Rule}
 use Rattle.rdata_values.specs.Classes.{internet}
 use Rattle.rdata_values.specs.Rtype as Rtype
@@ -15,13 +15,13 @@ use Rattle.dns_wire.specs.Order.{same_name}
 use Rattle.zone_rules.specs.Above.{is_below, is_within}
 use Rattle.zone_rules.specs.Findings.{breaks_at}
 use Rattle.zone_rules.specs.Present.{has_address_in}
-use Rattle.zone_rules.specs.Rules.{breaks, breaks_in_way, is_alias, is_below_own_dname, is_beside_aliases, is_missing, is_of_sha1, are_of_one_key, is_record_at_apex, is_without_glue, lacks_address, names_host}
+use Rattle.zone_rules.specs.Rules.{breaks, breaks_in_way, has_serial_of, is_alias, is_alias_mode, is_below_own_dname, is_beside_aliases, is_missing, is_of_sha1, are_of_one_key, is_record_at_apex, is_without_glue, lacks_address, names_host}
 use Rattle.zone_rules.specs.Searches.{AreOwnedFrom}
 use Rattle.zone_rules.specs.Spf.{is_spf}
 use Rattle.zone_rules.specs.Subjects.{alike, is_apex_server, is_server_above, relates, wants_host, AreHostFaults, IsSubject}
 use Rattle.zone_rules.specs.Zones.{as_listed, comes_before, host_of, is_equal_record, record_before, type_of}
 use Rattle.zone_rules.specs.declared.beside.Relation.{Relation}
-use Rattle.zone_rules.specs.declared.beside.Relation.TheVariants.{Alias, Spf, Digest, Sha1, Server}
+use Rattle.zone_rules.specs.declared.beside.Relation.TheVariants.{Alias, Spf, Digest, Sha1, SameType, OtherSerial, Service, ServiceAlias}
 use Rattle.zone_rules.specs.declared.refused.RrsetName.{RrsetName}
 use Rattle.zone_rules.specs.declared.subject.HostFaults.{HostFaults}
 use Rattle.zone_rules.specs.declared.subject.Subject.{Subject}
@@ -62,6 +62,10 @@ listed_in_way R S CnameLoop way origin records refused before r = refl
 listed_in_way R S TwoSpf way origin records refused before r = refl
 listed_in_way R S WeakDigest way origin records refused before r = refl
 listed_in_way R S SingleNs way origin records refused before r = refl
+listed_in_way R S NullMx way origin records refused before r = refl
+listed_in_way R S ZonemdSerial way origin records refused before r = refl
+listed_in_way R S TlsaHost way origin records refused before r = refl
+listed_in_way R S SvcbAlias way origin records refused before r = refl
 listed_in_way R S TtlDiffers way origin records refused None r = refl
 listed_in_way R S TtlDiffers way origin records refused (Some b) r = refl
 listed_in_way R S Duplicate way origin records refused None r = refl
@@ -94,7 +98,10 @@ listed_related R S Alias one (Some r) = refl
 listed_related R S Spf one (Some r) = refl
 listed_related R S Digest one (Some r) = refl
 listed_related R S Sha1 one (Some r) = refl
-listed_related R S Server one (Some r) = refl
+listed_related R S SameType one (Some r) = refl
+listed_related R S OtherSerial one (Some r) = refl
+listed_related R S Service one (Some r) = refl
+listed_related R S ServiceAlias one (Some r) = refl
 
 pub related_listed : {N O M P R S : Type 0} (relation : Relation) (one : Record M P) (o : Option (Record N O)) (got : Option (Record R S)) → got ≡ option_map as_listed o
     → option_map_or (relates relation one) got false ≡ option_map_or (relates relation one) o false
@@ -135,7 +142,10 @@ related_owned Alias one r h = ap (λ b. b && (not (is_beside_aliases (type_of r)
 related_owned Spf one r h = ap (λ b. b && (is_spf r && comes_before r one)) h
 related_owned Digest one r h = ap (λ b. (b && (r.class == one.class && (type_of r == Rtype.ds && are_of_one_key one r))) && not (is_of_sha1 r)) h
 related_owned Sha1 one r h = ap (λ b. (b && (r.class == one.class && (type_of r == Rtype.ds && are_of_one_key one r))) && is_of_sha1 r) h
-related_owned Server one r h = ap (λ b. b && (type_of r == Rtype.ns && not (is_equal_record one r))) h
+related_owned SameType one r h = ap (λ b. b && (type_of r == type_of one && not (is_equal_record one r))) h
+related_owned OtherSerial one r h = ap (λ b. b && (type_of r == Rtype.soa && not (has_serial_of one r))) h
+related_owned Service one r h = ap (λ b. (b && (type_of r == type_of one && not (is_equal_record one r))) && not (is_alias_mode r)) h
+related_owned ServiceAlias one r h = ap (λ b. (b && (type_of r == type_of one && not (is_equal_record one r))) && is_alias_mode r) h
 
 -- no record passes a test that is of an owner if none of those at this owner does
 module _ {N O : Type 0} (p : Record N O → Bool) (name : List (List ℕ)) (records : List (Record N O)) (first past : ℕ) (owned : AreOwnedFrom name records first past)

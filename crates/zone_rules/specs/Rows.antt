@@ -13,7 +13,7 @@ use Rattle.zone_rules.specs.Base32Texts.{is_base32_text}
 use Rattle.zone_rules.specs.Findings.{found_in_zone}
 use Rattle.zone_rules.specs.HostNames.{is_bad_host_name, is_host_label, is_host_name, is_mailbox_name}
 use Rattle.zone_rules.specs.Present.{closest_encloser, is_synthesized}
-use Rattle.zone_rules.specs.Rules.{are_two_of, has_spf_before, have_other_ttls, has_no_algorithm, has_other_protocol, is_alias_in_company, is_alias_loop, is_below_dname, is_below_its_apex, is_dname_at_cut, is_lone_server, is_soa_below_apex, is_unhashed_nsec3, is_weak_digest, lacks_glue, lacks_key, lacks_ns, lacks_ns_address, names_alias, names_missing, names_nothing, names_renamed}
+use Rattle.zone_rules.specs.Rules.{are_two_of, has_spf_before, have_other_ttls, has_no_algorithm, has_other_protocol, is_alias_in_company, is_alias_loop, is_below_dname, is_below_its_apex, is_dname_at_cut, has_lost_host, has_other_serial, has_wrong_alias, is_lone_server, is_null_mx, is_null_mx_beside, is_soa_below_apex, is_unhashed_nsec3, is_weak_digest, lacks_glue, lacks_key, lacks_ns, lacks_ns_address, is_alias_mode, names_alias, names_missing, names_no_service, names_nothing, names_renamed, tlsa_host}
 use Rattle.zone_rules.specs.Spf.{is_spf}
 use Rattle.zone_rules.specs.Zones.{host_of, is_one_set, is_one_owner}
 use Rattle.zone_rules.specs.declared.refused.RrsetName.{RrsetName}
@@ -456,6 +456,180 @@ delegated_server_row = refl
 outside_server_row : is_lone_server apex no_records [] (entry (codes "d" ∷ [] ∷ []) Rtype.ns (wire (codes "o" ∷ [] ∷ []))) ≡ false
 unfolding type_shapes labels_in_octets
 outside_server_row = refl
+
+-- ---- services (RFC 9460): in AliasMode a target needs records, in ServiceMode an address
+
+abbrev service_to : ℕ → List (List ℕ) → Record ℕ ℕ
+service_to priority target = entry (under (codes "s")) Rtype.https (0 ∷ priority ∷ wire target)
+
+alias_mode_row : is_alias_mode (service_to 0 (under (codes "x"))) ≡ true
+unfolding type_shapes
+alias_mode_row = refl
+
+service_mode_row : is_alias_mode (service_to 1 (under (codes "x"))) ≡ false
+unfolding type_shapes
+service_mode_row = refl
+
+no_alias_mode_row : is_alias_mode (entry apex Rtype.mx (0 ∷ 0 ∷ 0 ∷ [])) ≡ false
+no_alias_mode_row = refl
+
+alias_text_row : names_no_service apex (entry (under (codes "x")) Rtype.txt (0 ∷ []) ∷ []) [] (service_to 0 (under (codes "x"))) ≡ false
+unfolding type_shapes labels_in_octets
+alias_text_row = refl
+
+service_text_row : names_no_service apex (entry (under (codes "x")) Rtype.txt (0 ∷ []) ∷ []) [] (service_to 1 (under (codes "x"))) ≡ true
+unfolding type_shapes labels_in_octets
+service_text_row = refl
+
+service_address_row : names_no_service apex (entry (under (codes "X")) Rtype.aaaa address ∷ []) [] (service_to 1 (under (codes "x"))) ≡ false
+unfolding type_shapes labels_in_octets
+service_address_row = refl
+
+service_alias_row : names_no_service apex (entry (under (codes "*")) Rtype.cname (wire (under (codes "o"))) ∷ []) [] (service_to 1 (under (codes "x"))) ≡ false
+unfolding type_shapes labels_in_octets
+service_alias_row = refl
+
+lost_alias_row : names_no_service apex no_records [] (service_to 0 (under (codes "x"))) ≡ true
+unfolding type_shapes labels_in_octets
+lost_alias_row = refl
+
+-- the root as a target (section 2.5), and a target outside of the zone
+owner_service_row : names_no_service apex no_records [] (service_to 1 ([] ∷ [])) ≡ false
+unfolding type_shapes labels_in_octets
+owner_service_row = refl
+
+outer_service_row : names_no_service apex no_records [] (service_to 1 (codes "o" ∷ [] ∷ [])) ≡ false
+unfolding type_shapes labels_in_octets
+outer_service_row = refl
+
+delegated_service_row : names_no_service apex (entry (under (codes "s")) Rtype.ns (wire (codes "o" ∷ [] ∷ [])) ∷ []) [] (service_to 1 (under (codes "x"))) ≡ false
+unfolding type_shapes labels_in_octets
+delegated_service_row = refl
+
+-- an alias with parameters (`port=53`), beside a record in ServiceMode, and beside another alias
+abbrev alias_service : Record ℕ ℕ
+alias_service = service_to 0 (under (codes "x"))
+
+plain_alias_row : has_wrong_alias 0 apex (alias_service ∷ []) [] alias_service ≡ false
+unfolding type_shapes
+plain_alias_row = refl
+
+parameter_row : has_wrong_alias 0 apex no_records [] (entry (under (codes "s")) Rtype.https (0 ∷ 0 ∷ wire (under (codes "x")) ++ 0 ∷ 3 ∷ 0 ∷ 2 ∷ 0 ∷ 53 ∷ [])) ≡ true
+unfolding type_shapes
+parameter_row = refl
+
+service_beside_row : has_wrong_alias 1 apex (alias_service ∷ service_to 1 (under (codes "x")) ∷ []) [] alias_service ≡ true
+unfolding type_shapes
+service_beside_row = refl
+
+alias_beside_row : has_wrong_alias 2 apex (alias_service ∷ service_to 0 (under (codes "y")) ∷ []) [] alias_service ≡ true
+unfolding type_shapes
+alias_beside_row = refl
+
+-- of the other type, and the same record twice, with another TTL
+other_type_row : has_wrong_alias 2 apex (alias_service ∷ entry (under (codes "s")) Rtype.svcb (0 ∷ 0 ∷ wire (under (codes "y"))) ∷ []) [] alias_service ≡ false
+unfolding type_shapes
+other_type_row = refl
+
+equal_alias_row : has_wrong_alias 2 apex (alias_service ∷ slow_entry (under (codes "S")) Rtype.https (0 ∷ 0 ∷ wire (under (codes "x"))) ∷ []) [] alias_service ≡ false
+unfolding type_shapes
+equal_alias_row = refl
+
+-- ---- mail exchanges: `@ MX 0 .` alone, beside another MX, and with another preference (RFC 7505 section 3)
+
+abbrev null_mx : Record ℕ ℕ
+null_mx = entry apex Rtype.mx (0 ∷ 0 ∷ 0 ∷ [])
+
+null_mx_row : is_null_mx null_mx ≡ true
+unfolding type_shapes labels_in_octets
+null_mx_row = refl
+
+host_mx_row : is_null_mx (mail_to (under (codes "mx"))) ≡ false
+unfolding type_shapes labels_in_octets
+host_mx_row = refl
+
+lone_null_row : is_null_mx_beside apex (null_mx ∷ entry (under (codes "a")) Rtype.mx (0 ∷ 10 ∷ 0 ∷ []) ∷ []) [] null_mx ≡ false
+unfolding type_shapes labels_in_octets
+lone_null_row = refl
+
+null_beside_row : is_null_mx_beside apex (null_mx ∷ mail_to (under (codes "mx")) ∷ []) [] null_mx ≡ true
+unfolding type_shapes labels_in_octets
+null_beside_row = refl
+
+two_null_row : is_null_mx_beside apex (null_mx ∷ entry apex Rtype.mx (0 ∷ 10 ∷ 0 ∷ []) ∷ []) [] null_mx ≡ true
+unfolding type_shapes labels_in_octets
+two_null_row = refl
+
+-- the target of an SRV may be the root beside others, and records at a delegation are not of the zone
+null_service_row : is_null_mx (entry apex Rtype.srv (0 ∷ 0 ∷ 0 ∷ 0 ∷ 0 ∷ 0 ∷ 0 ∷ [])) ≡ false
+unfolding type_shapes labels_in_octets
+null_service_row = refl
+
+delegated_null_row : is_null_mx_beside apex (delegation ∷ entry (under (codes "sub")) Rtype.mx (0 ∷ 10 ∷ 0 ∷ []) ∷ []) [] (entry (under (codes "sub")) Rtype.mx (0 ∷ 0 ∷ 0 ∷ [])) ≡ false
+unfolding type_shapes labels_in_octets
+delegated_null_row = refl
+
+-- ---- digests of the zone: RFC 8976 appendix A.1 has the serial 2018031900
+
+abbrev soa_of : List ℕ → Record ℕ ℕ
+soa_of serial = entry apex Rtype.soa (wire (under (codes "ns1")) ++ wire (under (codes "admin")) ++ serial ++ 0 ∷ 0 ∷ 7 ∷ 8 ∷ 0 ∷ 0 ∷ 3 ∷ 132 ∷ 0 ∷ 9 ∷ 58 ∷ 128 ∷ 0 ∷ 1 ∷ 81 ∷ 128 ∷ [])
+
+abbrev digest_owner : List (List ℕ) → Record ℕ ℕ
+digest_owner owner = entry owner Rtype.zonemd (120 ∷ 72 ∷ 185 ∷ 28 ∷ 1 ∷ 240 ∷ 0 ∷ 0 ∷ 0 ∷ 0 ∷ 0 ∷ 0 ∷ 0 ∷ 0 ∷ 0 ∷ 0 ∷ 0 ∷ 0 ∷ [])
+
+own_serial_row : has_other_serial apex (soa_of (120 ∷ 72 ∷ 185 ∷ 28 ∷ []) ∷ []) (digest_owner apex) ≡ false
+unfolding type_shapes
+own_serial_row = refl
+
+next_serial_row : has_other_serial apex (soa_of (120 ∷ 72 ∷ 185 ∷ 29 ∷ []) ∷ []) (digest_owner apex) ≡ true
+unfolding type_shapes
+next_serial_row = refl
+
+-- an SOA whose entry was rejected, and a ZONEMD below the apex
+unread_soa_row : has_other_serial apex no_records (digest_owner apex) ≡ false
+unfolding type_shapes
+unread_soa_row = refl
+
+lower_digest_row : has_other_serial apex (soa_of (120 ∷ 72 ∷ 185 ∷ 29 ∷ []) ∷ []) (digest_owner (under (codes "a"))) ≡ false
+unfolding type_shapes
+lower_digest_row = refl
+
+-- ---- hosts of TLSA: RFC 6698 section 3 has `_443._tcp.www.example.com`
+
+abbrev association : List (List ℕ) → Record ℕ ℕ
+association owner = entry owner Rtype.tlsa (3 ∷ 1 ∷ 0 ∷ 0 ∷ [])
+
+abbrev www_association : Record ℕ ℕ
+www_association = association (codes "_443" ∷ codes "_TCP" ∷ under (codes "www"))
+
+host_row : tlsa_host www_association ≡ Some (under (codes "www"))
+host_row = refl
+
+no_transport_row : tlsa_host (association (under (codes "www"))) ≡ None
+no_transport_row = refl
+
+known_host_row : has_lost_host apex (www_association ∷ entry (under (codes "www")) Rtype.aaaa address ∷ []) [] www_association ≡ false
+known_host_row = refl
+
+alias_known_row : has_lost_host apex (www_association ∷ alias ∷ []) [] www_association ≡ false
+alias_known_row = refl
+
+lost_host_row : has_lost_host apex (www_association ∷ []) [] www_association ≡ true
+lost_host_row = refl
+
+-- RFC 4592 section 2.2.3: the TLSA makes its host exist, so the wildcard is not for it
+star_host_row : has_lost_host apex (entry (under (codes "*")) Rtype.a address ∷ www_association ∷ []) [] www_association ≡ true
+star_host_row = refl
+
+-- a wildcard as the host, a host outside of the zone, and one whose entry was rejected
+wildcard_host_row : has_lost_host apex no_records [] (association (codes "_25" ∷ codes "_tcp" ∷ under (codes "*"))) ≡ false
+wildcard_host_row = refl
+
+outer_host_row : has_lost_host (under (codes "_tcp")) no_records [] (association (codes "_25" ∷ under (codes "_tcp"))) ≡ false
+outer_host_row = refl
+
+refused_host_row : has_lost_host apex (www_association ∷ []) (named (under (codes "www")) Rtype.a ∷ []) www_association ≡ false
+refused_host_row = refl
 
 -- RRSIGs of one owner belong to the RRset of the type that they cover
 one_owner_row : is_one_owner (entry apex Rtype.a address ∷ entry (under (codes "a")) Rtype.a address ∷ entry apex Rtype.ns [] ∷ []) 0 2 ≡ true

@@ -1,11 +1,12 @@
 -- The rules: when a record breaks each.
-use Rattle.std.specs.Prelude.{ℕ, zero, suc, ◌==◌, ◌&&◌, ◌||◌, not, nat_eq, if◌then◌else◌, Bool, false, List, [], ◌∷◌, slice_get, Option, Some, None, codes, option_and_then}
+use Rattle.std.specs.Prelude.{ℕ, zero, suc, ◌==◌, ◌&&◌, ◌||◌, not, nat_eq, nat_lt, length, if◌then◌else◌, Bool, true, false, List, [], ◌∷◌, slice_get, Option, Some, None, codes, option_and_then}
 use Rattle.std.specs.Cmp.Lexicographic.{pointwise}
 use Rattle.std.specs.List.{find, list_any}
 use Rattle.std.specs.Option.{option_map_or}
+use Rattle.dns_octets.specs.Lowered.{same_lowered}
 use Rattle.dns_wire.specs.Order.{same_name}
 use Rattle.finding_codes.specs.declared.code.Code.{Code}
-use Rattle.finding_codes.specs.declared.code.Code.TheVariants.{Outside, TwoSoas, NsAddress, Cname, BelowDname, WildcardNs, SoaNotApex, NsBesideDname, HostName, DsWithoutNs, NotAtApex, KeyProtocol, KeyAlgorithm, CnameTargetMissing, CnameLoop, TwoSpf, WeakDigest, SingleNs, TtlDiffers, Duplicate, Dname, DsApex, Nsec3Wildcard, Glue, TargetCname, TargetMissing, Cds}
+use Rattle.finding_codes.specs.declared.code.Code.TheVariants.{Outside, TwoSoas, NsAddress, Cname, BelowDname, WildcardNs, SoaNotApex, NsBesideDname, HostName, DsWithoutNs, NotAtApex, KeyProtocol, KeyAlgorithm, CnameTargetMissing, CnameLoop, TwoSpf, WeakDigest, SingleNs, TtlDiffers, Duplicate, Dname, DsApex, Nsec3Wildcard, Glue, TargetCname, TargetMissing, Cds, NullMx, ZonemdSerial, TlsaHost, SvcbAlias}
 use Rattle.finding_codes.specs.declared.rule.Rule.{Rule}
 use Rattle.rdata_values.specs.Classes.{internet}
 use Rattle.rdata_values.specs.Rtype as Rtype
@@ -14,10 +15,10 @@ use Rattle.zone_record.specs.Records.{data_of}
 use Rattle.zone_record.specs.declared.record.Record.{Record}
 use Rattle.zone_rules.specs.Above.{first_label_of, is_below, is_within, is_wildcard, names_above}
 use Rattle.zone_rules.specs.Base32Texts.{is_base32_text}
-use Rattle.zone_rules.specs.HostNames.{is_bad_host_name, name_in}
+use Rattle.zone_rules.specs.HostNames.{is_bad_host_name, name_in, target_field}
 use Rattle.zone_rules.specs.Present.{closest_dname, has_any_address, yields_records, has_address_in, has_dname_above, is_listed, is_own, is_present, is_renamed, is_synthesized}
 use Rattle.zone_rules.specs.Spf.{is_spf}
-use Rattle.zone_rules.specs.Zones.{comes_before, type_of, has_type_at, is_equal_record, record_before, host_of, set_type, is_one_set}
+use Rattle.zone_rules.specs.Zones.{but_root, comes_before, field_octets, type_of, has_type_at, is_equal_record, record_before, host_of, set_type, is_one_set}
 use Rattle.zone_rules.specs.declared.refused.RrsetName.{RrsetName}
 
 -- the record is neither at the origin nor below it
@@ -79,6 +80,10 @@ is_wildcard_ns r = type_of r == Rtype.ns && is_wildcard r.owner
 -- the record is an NSEC3, and the first label of its owner is not a hash in base32hex
 abbrev pub is_unhashed_nsec3 : {N O : Type 0} → Record N O → Bool
 is_unhashed_nsec3 r = type_of r == Rtype.nsec3 && not (is_base32_text (first_label_of r.owner))
+
+-- another record at a record's owner has its type, and differs from it
+abbrev pub is_other_of_type : {N O M P : Type 0} → Record N O → Record M P → Bool
+is_other_of_type r other = same_name other.owner r.owner && (type_of other == type_of r && not (is_equal_record r other))
 
 -- ---- delegations
 
@@ -179,6 +184,54 @@ leads_to (suc count) records goal name = option_map_or (λ next. same_name next 
 abbrev pub is_alias_loop : {N O M P : Type 0} → List (Record N O) → Record M P → Bool
 is_alias_loop records r = type_of r == Rtype.cname && leads_to 16 records r.owner r.owner
 
+-- ---- services: SVCB and HTTPS (RFC 9460)
+
+abbrev pub is_service_type : RecordType → Bool
+is_service_type rtype = rtype == Rtype.svcb || rtype == Rtype.https
+
+-- the target of a service; the root means no service in AliasMode, and the owner in ServiceMode (section 2.5)
+abbrev pub service_target : {N O : Type 0} → Record N O → Option (List (List ℕ))
+service_target r = if is_service_type (type_of r) then option_and_then but_root (name_in r (target_field (type_of r))) else None
+
+-- AliasMode: the priority is 0 (section 2.4.1)
+abbrev pub is_alias_mode : {N O : Type 0} → Record N O → Bool
+is_alias_mode r = is_service_type (type_of r) && pointwise nat_eq (field_octets 0 r) (0 ∷ 0 ∷ [])
+
+-- the zone lacks what a service asks of a name: in AliasMode records (section 2.4.2), and else addresses (section 2.4.3)
+abbrev pub is_absent : {N O M P : Type 0} → List (List ℕ) → List (Record N O) → List RrsetName → Record M P → List (List ℕ) → Bool
+is_absent origin records refused r name = if is_alias_mode r then lacks_records origin records refused name else (r.class == internet && is_missing origin records refused name)
+
+-- the target of a service is missing, and the zone is authoritative for the owner
+abbrev pub names_no_service : {N O M P : Type 0} → List (List ℕ) → List (Record N O) → List RrsetName → Record M P → Bool
+names_no_service origin records refused r = option_map_or (λ name. is_absent origin records refused r name && is_own origin records refused r.owner) (service_target r) false
+
+-- the octets after a priority
+abbrev pub after_priority : List ℕ → List ℕ
+after_priority [] = []
+after_priority (high ∷ []) = []
+after_priority (high ∷ low ∷ others) = others
+
+-- parameters follow the target: it is shorter than what is after the priority
+abbrev pub has_svc_params : {N O : Type 0} → Record N O → Bool
+has_svc_params r = nat_lt (length (field_octets 1 r)) (length (after_priority (data_of r).octets))
+
+-- another record of the owner and the type is in ServiceMode, or in AliasMode
+abbrev pub is_service_beside : {N O M P : Type 0} → Record N O → Record M P → Bool
+is_service_beside r other = is_other_of_type r other && not (is_alias_mode other)
+
+abbrev pub is_alias_beside : {N O M P : Type 0} → Record N O → Record M P → Bool
+is_alias_beside r other = is_other_of_type r other && is_alias_mode other
+
+-- what is wrong with an alias: it has parameters (section 2.4.2); it is beside others in ServiceMode (section 2.4.1); it is one of several
+abbrev pub is_wrong_alias : {N O M P : Type 0} → (way : ℕ) → List (Record N O) → Record M P → Bool
+is_wrong_alias way records r =
+    if way == 0 then has_svc_params r
+    else (if way == 1 then list_any (is_service_beside r) records else (not (list_any (is_service_beside r) records) && list_any (is_alias_beside r) records))
+
+-- a service in AliasMode is wrong, and the zone is authoritative for its owner
+abbrev pub has_wrong_alias : {N O M P : Type 0} → (way : ℕ) → List (List ℕ) → List (Record N O) → List RrsetName → Record M P → Bool
+has_wrong_alias way origin records refused r = is_alias_mode r && (is_wrong_alias way records r && is_own origin records refused r.owner)
+
 -- ---- keys
 
 -- DNSKEY (RFC 4034 section 2), DS (section 5), and those for the parent (RFC 7344)
@@ -250,10 +303,6 @@ has_spf_before records r = is_spf r && list_any (is_spf_beside r) records
 
 -- ---- name servers
 
--- another record at a record's owner is an NS, and differs from it
-abbrev pub is_server_beside : {N O M P : Type 0} → Record N O → Record M P → Bool
-is_server_beside r other = same_name other.owner r.owner && (type_of other == Rtype.ns && not (is_equal_record r other))
-
 -- names that no server has (RFC 6761): catalog zones (RFC 9432) and response policies have them as hosts
 abbrev pub is_serverless : List (List ℕ) → Bool
 is_serverless name = is_within name (codes "invalid" ∷ [] ∷ []) || is_within name (codes "localhost" ∷ [] ∷ [])
@@ -264,7 +313,55 @@ names_server r = names_host (λ host. not (is_serverless host)) r
 -- the only NS of the apex, with a host that may be a server (RFC 1034 section 4.1)
 abbrev pub is_lone_server : {N O M P : Type 0} → List (List ℕ) → List (Record N O) → List RrsetName → Record M P → Bool
 is_lone_server origin records refused r =
-    type_of r == Rtype.ns && (same_name r.owner origin && (names_server r && (not (is_listed Rtype.ns r.owner refused) && not (list_any (is_server_beside r) records))))
+    type_of r == Rtype.ns && (same_name r.owner origin && (names_server r && (not (is_listed Rtype.ns r.owner refused) && not (list_any (is_other_of_type r) records))))
+
+-- ---- mail exchanges
+
+-- an MX without a host: its exchange is the root, so its owner receives no mail (RFC 7505 section 3)
+abbrev pub is_null_mx : {N O : Type 0} → Record N O → Bool
+is_null_mx r = type_of r == Rtype.mx && not (names_host (λ host. true) r)
+
+-- a null MX, and another MX at its owner, for which the zone is authoritative
+abbrev pub is_null_mx_beside : {N O M P : Type 0} → List (List ℕ) → List (Record N O) → List RrsetName → Record M P → Bool
+is_null_mx_beside origin records refused r = is_null_mx r && (is_own origin records refused r.owner && list_any (is_other_of_type r) records)
+
+-- ---- digests of the zone
+
+-- a ZONEMD has the serial of an SOA (RFC 8976 section 2.2.1, RFC 1035 section 3.3.13)
+abbrev pub has_serial_of : {N O M P : Type 0} → Record N O → Record M P → Bool
+has_serial_of r soa = pointwise nat_eq (field_octets 0 r) (field_octets 2 soa)
+
+-- another record at a ZONEMD's owner is an SOA with another serial
+abbrev pub is_soa_of_other_serial : {N O M P : Type 0} → Record N O → Record M P → Bool
+is_soa_of_other_serial r other = same_name other.owner r.owner && (type_of other == Rtype.soa && not (has_serial_of r other))
+
+-- a ZONEMD at the apex, and an SOA there with another serial
+abbrev pub has_other_serial : {N O M P : Type 0} → List (List ℕ) → List (Record N O) → Record M P → Bool
+has_other_serial origin records r = is_record_at_apex Rtype.zonemd origin r && list_any (is_soa_of_other_serial r) records
+
+-- ---- hosts of TLSA (RFC 6698 section 3)
+
+-- the label of a transport
+abbrev pub is_transport : List ℕ → Bool
+is_transport label = same_lowered label (codes "_tcp") || (same_lowered label (codes "_udp") || same_lowered label (codes "_sctp"))
+
+-- the name after the first label of a transport
+abbrev pub name_after_transport : List (List ℕ) → Option (List (List ℕ))
+name_after_transport [] = None
+name_after_transport (label ∷ []) = None
+name_after_transport (label ∷ next ∷ others) = if is_transport label then Some (next ∷ others) else name_after_transport (next ∷ others)
+
+-- the host of a TLSA
+abbrev pub tlsa_host : {N O : Type 0} → Record N O → Option (List (List ℕ))
+tlsa_host r = if type_of r == Rtype.tlsa then option_and_then but_root (name_after_transport r.owner) else None
+
+-- the zone is authoritative for the owner of a TLSA, and lacks an address for its host, which is not a wildcard
+abbrev pub is_lost : {N O M P : Type 0} → List (List ℕ) → List (Record N O) → List RrsetName → Record M P → List (List ℕ) → Bool
+is_lost origin records refused r host = not (is_wildcard host) && (is_missing origin records refused host && is_own origin records refused r.owner)
+
+-- a TLSA of class IN whose host is missing
+abbrev pub has_lost_host : {N O M P : Type 0} → List (List ℕ) → List (Record N O) → List RrsetName → Record M P → Bool
+has_lost_host origin records refused r = r.class == internet && option_map_or (is_lost origin records refused r) (tlsa_host r) false
 
 -- ---- all rules
 
@@ -283,7 +380,7 @@ breaks_in_way NsBesideDname way origin records refused before r = is_dname_at_cu
 breaks_in_way Nsec3Wildcard way origin records refused before r = is_unhashed_nsec3 r
 breaks_in_way Glue way origin records refused before r = lacks_glue origin records refused r
 breaks_in_way TargetCname way origin records refused before r = if way == 0 then names_alias origin records refused r else names_renamed origin records refused r
-breaks_in_way TargetMissing way origin records refused before r = names_missing origin records refused r
+breaks_in_way TargetMissing way origin records refused before r = names_missing origin records refused r || names_no_service origin records refused r
 breaks_in_way HostName way origin records refused before r = is_bad_host_name r
 breaks_in_way Cds way origin records refused before r = lacks_key origin records refused r
 breaks_in_way DsWithoutNs way origin records refused before r = lacks_ns origin records refused r
@@ -295,6 +392,10 @@ breaks_in_way CnameLoop way origin records refused before r = is_alias_loop reco
 breaks_in_way TwoSpf way origin records refused before r = has_spf_before records r
 breaks_in_way WeakDigest way origin records refused before r = is_weak_digest records refused r
 breaks_in_way SingleNs way origin records refused before r = is_lone_server origin records refused r
+breaks_in_way NullMx way origin records refused before r = is_null_mx_beside origin records refused r
+breaks_in_way ZonemdSerial way origin records refused before r = has_other_serial origin records r
+breaks_in_way TlsaHost way origin records refused before r = has_lost_host origin records refused r
+breaks_in_way SvcbAlias way origin records refused before r = has_wrong_alias way origin records refused r
 breaks_in_way TtlDiffers way origin records refused before r = passes_after have_other_ttls before r
 breaks_in_way Duplicate way origin records refused before r = passes_after is_equal_record before r
 breaks_in_way _ way origin records refused before r = false

@@ -1,12 +1,12 @@
 -- The rules that a record of a type may break.
 use Rattle.std.specs.Prelude.{◌≡◌, ◌==◌, ◌||◌, Bool, true, false, List, filter}
 use Rattle.finding_codes.specs.declared.code.Code.{Code}
-use Rattle.finding_codes.specs.declared.code.Code.TheVariants.{Outside, TwoSoas, NsAddress, Cname, BelowDname, WildcardNs, SoaNotApex, NsBesideDname, HostName, DsWithoutNs, NotAtApex, KeyProtocol, KeyAlgorithm, CnameTargetMissing, CnameLoop, TwoSpf, WeakDigest, SingleNs, TtlDiffers, Duplicate, Dname, DsApex, Nsec3Wildcard, Glue, TargetCname, TargetMissing, Cds}
+use Rattle.finding_codes.specs.declared.code.Code.TheVariants.{Outside, TwoSoas, NsAddress, Cname, BelowDname, WildcardNs, SoaNotApex, NsBesideDname, HostName, DsWithoutNs, NotAtApex, KeyProtocol, KeyAlgorithm, CnameTargetMissing, CnameLoop, TwoSpf, WeakDigest, SingleNs, TtlDiffers, Duplicate, Dname, DsApex, Nsec3Wildcard, Glue, TargetCname, TargetMissing, Cds, NullMx, ZonemdSerial, TlsaHost, SvcbAlias}
 use Rattle.finding_codes.specs.declared.rule.Rule.{Rule}
 use Rattle.rdata_values.specs.Rtype as Rtype
 use Rattle.rdata_values.specs.declared.types.RecordType.{RecordType}
 use Rattle.zone_rules.specs.Findings.{record_rules}
-use Rattle.zone_rules.specs.Rules.{is_apex_type}
+use Rattle.zone_rules.specs.Rules.{is_apex_type, is_service_type}
 
 -- records of the type have a host
 abbrev pub has_host_field : RecordType → Bool
@@ -27,7 +27,7 @@ may_break_code rtype NsBesideDname = rtype == Rtype.dname
 may_break_code rtype Nsec3Wildcard = rtype == Rtype.nsec3
 may_break_code rtype Glue = rtype == Rtype.ns
 may_break_code rtype TargetCname = has_host_field rtype
-may_break_code rtype TargetMissing = has_host_field rtype
+may_break_code rtype TargetMissing = has_host_field rtype || is_service_type rtype
 may_break_code rtype HostName = true
 may_break_code rtype Cds = rtype == Rtype.cds || rtype == Rtype.cdnskey
 may_break_code rtype DsWithoutNs = rtype == Rtype.ds
@@ -39,6 +39,10 @@ may_break_code rtype CnameLoop = rtype == Rtype.cname
 may_break_code rtype TwoSpf = rtype == Rtype.txt
 may_break_code rtype WeakDigest = rtype == Rtype.ds
 may_break_code rtype SingleNs = rtype == Rtype.ns
+may_break_code rtype NullMx = rtype == Rtype.mx
+may_break_code rtype ZonemdSerial = rtype == Rtype.zonemd
+may_break_code rtype TlsaHost = rtype == Rtype.tlsa
+may_break_code rtype SvcbAlias = is_service_type rtype
 may_break_code rtype TtlDiffers = true
 may_break_code rtype Duplicate = true
 may_break_code rtype _ = false

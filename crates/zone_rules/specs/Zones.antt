@@ -74,6 +74,10 @@ is_one_owner records left right = option_map_or (λ a. option_map_or (λ b. same
 abbrev pub record_before : {N O : Type 0} → List (Record N O) → ℕ → Option (Record N O)
 record_before records place = if place == 0 then None else slice_get records (place - 1)
 
+-- the octets of the field at an index of a record's data
+abbrev pub field_octets : {N O : Type 0} → ℕ → Record N O → List ℕ
+field_octets place r = option_map_or (λ octets. octets) (data_part (data_of r) place) []
+
 -- the host in a record's data: of NS the first field, of MX the second, and of SRV the fourth
 abbrev pub host_field : RecordType → Option ℕ
 host_field rtype = if rtype == Rtype.ns then Some 0 else (if rtype == Rtype.mx then Some 1 else (if rtype == Rtype.srv then Some 3 else None))

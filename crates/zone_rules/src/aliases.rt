@@ -47,7 +47,7 @@ pub fn alias_target<Owner: AsOctets, Octets: AsOctets>(
 }
 
 /// Returns whether the zone is authoritative for a name, and has no records for it.
-fn is_without_records<Z: ZoneRecords>(
+pub(crate) fn is_without_records<Z: ZoneRecords>(
     origin: &Name<&[u8]>,
     records: &Z,
     refused: &SortedSets<'_>,

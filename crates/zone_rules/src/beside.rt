@@ -2,7 +2,7 @@
 ghost use Rattle.std.specs.Prelude.{◌≡◌, ◌<◌, ◌≤◌, ◌-◌, false, length, true};
 ghost use Rattle.std.specs.List.{list_any};
 ghost use Rattle.rdata_values.specs.Rtype as Rtype;
-ghost use Rattle.zone_rules.specs.Rules.{has_spf_before, is_alias_in_company, is_beside_alias, is_beside_aliases, is_digest_beside, is_ds_beside, is_of_sha1, is_server_beside, is_lone_server, is_spf_beside, is_weak_digest};
+ghost use Rattle.zone_rules.specs.Rules.{has_spf_before, is_alias_in_company, is_beside_alias, is_beside_aliases, is_digest_beside, is_ds_beside, is_of_sha1, is_other_of_type, is_lone_server, is_spf_beside, is_weak_digest};
 ghost use Rattle.zone_rules.specs.Subjects.{relates, relates_at, BeginsSha1, EndsSha1, IsRecordAt};
 ghost use Rattle.zone_rules.specs.Zones.{type_of};
 
@@ -11,8 +11,10 @@ use crate::keys::{is_of_same_key, is_of_sha1};
 use crate::names::is_same;
 use crate::pairs::{are_equal, comes_before, have_one_owner};
 use crate::refused::{SortedSets, lists_set};
+use crate::services::is_alias_mode;
 use crate::spf::is_spf;
 use crate::zone_records::{OwnerBuffer, ZoneRecord, ZoneRecords};
+use crate::zonemd::is_soa_of_other_serial;
 use dns_wire::Name;
 use rdata_values::RecordType;
 
@@ -27,8 +29,14 @@ pub enum Relation {
     Digest,
     /// The other one is a DS of the same RRset and key, with SHA-1.
     Sha1,
-    /// The other one is an NS that differs.
-    Server,
+    /// The other one has the same type, and differs.
+    SameType,
+    /// The other one is an SOA with another serial than this one, a ZONEMD.
+    OtherSerial,
+    /// The other one has the same type and differs, and is a service in ServiceMode.
+    Service,
+    /// The same, in AliasMode.
+    ServiceAlias,
 }
 
 /// Returns whether the owner of a CNAME may have records of a type besides it (RFC 4035 section 2.5).
@@ -67,12 +75,12 @@ fn is_ds_beside(record: &ZoneRecord<'_>, other: &ZoneRecord<'_>) -> bool
         && is_of_same_key(&*record, &*other)
 }
 
-/// Returns whether another record at a record's owner is an NS, and differs from it.
-fn is_other_server(record: &ZoneRecord<'_>, other: &ZoneRecord<'_>) -> bool
-    ensures { result ≡ is_server_beside «record».now other.now }
+/// Returns whether another record at a record's owner has its type, and differs from it.
+fn is_other_of_type(record: &ZoneRecord<'_>, other: &ZoneRecord<'_>) -> bool
+    ensures { result ≡ is_other_of_type «record».now other.now }
 {
     have_one_owner(&*other, &*record)
-        && other.data.rtype() == RecordType::NS
+        && other.data.rtype() == record.data.rtype()
         && !are_equal(&*record, &*other)
 }
 
@@ -85,7 +93,10 @@ fn is_related(relation: Relation, record: &ZoneRecord<'_>, other: &ZoneRecord<'_
         Relation::Spf => is_earlier_spf(record, other),
         Relation::Digest => is_ds_beside(record, other) && !is_of_sha1(other),
         Relation::Sha1 => is_ds_beside(record, other) && is_of_sha1(other),
-        Relation::Server => is_other_server(record, other),
+        Relation::SameType => is_other_of_type(record, other),
+        Relation::OtherSerial => is_soa_of_other_serial(record, other),
+        Relation::Service => is_other_of_type(record, other) && !is_alias_mode(other),
+        Relation::ServiceAlias => is_other_of_type(record, other) && is_alias_mode(other),
     }
 }
 
@@ -149,7 +160,7 @@ fn is_related_after<Z: ZoneRecords>(
 /// Returns whether the record at an index has a relation to another one. Searches from the index, first
 /// back and then on: mostly the record before it or after it has the same type.
 #[tactic(auto, using(crate::proofs::Subjects::one_before, crate::proofs::Subjects::one_more, crate::proofs::Subjects::none_related))]
-fn has_related<Z: ZoneRecords>(
+pub(crate) fn has_related<Z: ZoneRecords>(
     records: &Z,
     relation: Relation,
     place: usize,
@@ -298,5 +309,5 @@ pub(crate) fn is_lone_server<Z: ZoneRecords>(
     is_same(owner, origin)
         && names_server(record)
         && !lists_set(refused, owner, RecordType::NS)
-        && !has_related(records, Relation::Server, place, record)
+        && !has_related(records, Relation::SameType, place, record)
 }

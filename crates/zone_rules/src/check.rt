@@ -14,6 +14,7 @@ use crate::hosts::{host_faults, is_dname_at_delegation};
 use crate::keys::{
     is_ds_without_ns, is_not_at_apex, is_of_other_protocol, is_without_algorithm, is_without_key,
 };
+use crate::mail_exchanges::is_null_mx_beside;
 use crate::names::view;
 use crate::owners::{
     is_apex_record, is_ns_at_wildcard, is_outside_zone, is_soa_elsewhere, is_under_dname,
@@ -23,8 +24,11 @@ use crate::present::has_set;
 use crate::refused::SortedSets;
 use crate::rule::Finding;
 use crate::rules_by_type::rules_of;
+use crate::services::{has_wrong_alias, is_service_missing};
 use crate::subject::{HostFaults, Subject};
+use crate::tlsa::has_lost_host;
 use crate::zone_records::{OwnerBuffer, ZoneRecord, ZoneRecords};
+use crate::zonemd::has_other_serial;
 use dns_octets::AsOctets;
 use dns_wire::Name;
 use finding_codes::code::Code;
@@ -73,7 +77,9 @@ fn breaks_rule<Z: ZoneRecords>(
         Code::Nsec3Wildcard => is_nsec3_without_hash(record),
         Code::Glue => faults.lacks_glue,
         Code::TargetCname => names_other(rule.way, faults),
-        Code::TargetMissing => faults.is_missing,
+        Code::TargetMissing => {
+            faults.is_missing || is_service_missing(origin, records, refused, place, record)
+        }
         Code::HostName => is_no_host_name(record),
         Code::Cds => is_without_key(origin, records, refused, record),
         Code::DsWithoutNs => is_ds_without_ns(origin, records, refused, place, record),
@@ -85,6 +91,10 @@ fn breaks_rule<Z: ZoneRecords>(
         Code::TwoSpf => is_second_spf(records, place, record),
         Code::WeakDigest => is_weak_ds(records, refused, place, record),
         Code::SingleNs => is_lone_server(origin, records, refused, place, record),
+        Code::NullMx => is_null_mx_beside(origin, records, refused, place, record),
+        Code::ZonemdSerial => has_other_serial(origin, records, place, record),
+        Code::TlsaHost => has_lost_host(origin, records, refused, place, record),
+        Code::SvcbAlias => { has_wrong_alias(rule.way, origin, records, refused, place, record) }
         Code::TtlDiffers => has_other_ttl(before, record),
         Code::Duplicate => is_duplicate(before, record),
         _ => false,

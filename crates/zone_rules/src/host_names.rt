@@ -208,7 +208,7 @@ fn host_place(rtype: RecordType) -> Option<usize>
 }
 
 /// Returns the name of a host in the data of a record, if its type names one.
-fn named_host<'r>(record: &'r ZoneRecord<'_>) -> Option<Name<&'r [u8]>>
+pub(crate) fn named_host<'r>(record: &'r ZoneRecord<'_>) -> Option<Name<&'r [u8]>>
     ensures { result ≡ name_in «record».now (target_field (type_of «record».now)) }
 {
     let Some(field) = host_place(record.data.rtype()) else {

@@ -55,7 +55,7 @@ fn host_part<Octets: AsOctets>(data: &Data<Octets>) -> Option<&[u8]>
 
 /// Returns a name, or `None` if it is the root, which as a target means that the service has no
 /// host (RFC 7505 section 3, RFC 2782).
-fn but_root<'a>(name: Name<&'a [u8]>) -> Option<Name<&'a [u8]>>
+pub(crate) fn but_root<'a>(name: Name<&'a [u8]>) -> Option<Name<&'a [u8]>>
     ensures { result ≡ but_root name.entry }
 {
     match parent(&name) {
@@ -230,6 +230,26 @@ fn is_name_missing<Z: ZoneRecords>(
     ensures { result ≡ is_missing origin.now (Z.contents records.now) refused.now name.now }
 {
     lacks && !is_name_renamed(records, refused, name) && !has_alias
+}
+
+/// Returns whether the zone has no address for a name in the data of the record at an index, or for one
+/// above its owner, and the name is neither an alias nor below a DNAME.
+pub(crate) fn is_host_missing<Z: ZoneRecords>(
+    origin: &Name<&[u8]>,
+    records: &Z,
+    refused: &SortedSets<'_>,
+    place: usize,
+    record: &ZoneRecord<'_>,
+    name: &Name<&[u8]>,
+) -> bool
+    requires { IsRecordAt (Z.contents records.now) place «record».now }
+    ensures { result ≡ is_missing origin.now (Z.contents records.now) refused.now name.now }
+{
+    let types = types_of_host(records, refused, place, record, name);
+    let served = has_address(&types);
+    let unserved = is_without_address(origin, records, refused, name, served);
+    let alias = is_alias_name(origin, records, refused, name, types.has_cname);
+    is_name_missing(origin, records, refused, name, unserved, alias)
 }
 
 /// Returns whether a record is an NS at the apex, of class IN, and its host has no address.

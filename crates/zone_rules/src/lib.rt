@@ -4,11 +4,13 @@
 pub mod aliases;
 pub mod beside;
 pub mod check;
+pub mod fields;
 mod hash_owners;
 pub mod host_names;
 pub mod hosts;
 mod keys;
 pub mod laws;
+mod mail_exchanges;
 pub mod names;
 mod owners;
 pub mod pairs;
@@ -17,10 +19,13 @@ pub mod refused;
 pub mod rule;
 mod rules_by_type;
 pub mod search;
+pub mod services;
 pub mod sorted;
 mod spf;
 pub mod subject;
+mod tlsa;
 pub mod zone_records;
+mod zonemd;
 
 pub use check::{check_zone, find_broken, find_lacking};
 pub use refused::{RrsetName, SortedSets};

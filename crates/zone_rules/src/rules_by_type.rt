@@ -6,7 +6,7 @@ use finding_codes::rule::Rule;
 use rdata_values::RecordType;
 
 /// The rules for records, in the order in which their findings are reported.
-const RECORD_RULES: [Rule; 28] = [
+const RECORD_RULES: [Rule; 34] = [
     rule!(Outside, 0),
     rule!(TwoSoas, 0),
     rule!(NsAddress, 0),
@@ -33,6 +33,12 @@ const RECORD_RULES: [Rule; 28] = [
     rule!(TwoSpf, 0),
     rule!(WeakDigest, 0),
     rule!(SingleNs, 0),
+    rule!(NullMx, 0),
+    rule!(ZonemdSerial, 0),
+    rule!(TlsaHost, 0),
+    rule!(SvcbAlias, 0),
+    rule!(SvcbAlias, 1),
+    rule!(SvcbAlias, 2),
     rule!(TtlDiffers, 0),
     rule!(Duplicate, 0),
 ];
@@ -62,8 +68,21 @@ const RULES_OF_NS: [Rule; 12] = [
     rule!(Duplicate, 0),
 ];
 
-/// Those for an MX or SRV.
-const RULES_OF_HOST: [Rule; 8] = [
+/// Those for an MX.
+const RULES_OF_MX: [Rule; 9] = [
+    rule!(Outside, 0),
+    rule!(BelowDname, 0),
+    rule!(TargetCname, 0),
+    rule!(TargetCname, 1),
+    rule!(TargetMissing, 0),
+    rule!(HostName, 0),
+    rule!(NullMx, 0),
+    rule!(TtlDiffers, 0),
+    rule!(Duplicate, 0),
+];
+
+/// Those for an SRV.
+const RULES_OF_SRV: [Rule; 8] = [
     rule!(Outside, 0),
     rule!(BelowDname, 0),
     rule!(TargetCname, 0),
@@ -133,7 +152,7 @@ pub(crate) fn rules_of(rtype: RecordType) -> &'static [Rule]
         return &RULES_OF_TXT;
     }
     if rtype == RecordType::MX {
-        return &RULES_OF_HOST;
+        return &RULES_OF_MX;
     }
     if rtype == RecordType::DS {
         return &RULES_OF_DS;
@@ -145,7 +164,7 @@ pub(crate) fn rules_of(rtype: RecordType) -> &'static [Rule]
         return &RULES_OF_ANY;
     }
     if rtype == RecordType::SRV {
-        return &RULES_OF_HOST;
+        return &RULES_OF_SRV;
     }
     &RECORD_RULES
 }
