@@ -8,7 +8,7 @@ use Rattle.zone_dnssec.specs.SecurityFindings.{breaks_security, breaks_security_
 use Rattle.zone_dnssec.specs.Subjects.{IsSignedSubject}
 use Rattle.zone_dnssec.specs.ZoneViews.{ZoneView, zone_with}
 use Rattle.finding_codes.specs.declared.code.Code.{Code}
-use Rattle.finding_codes.specs.declared.code.Code.TheVariants.{Expired, ExpiresSoon, NotYetValid, RrsigTimes, RrsigSigner, RrsigLabels, OriginalTtl, RrsigTtl, Unsigned, NoKey, KeyMissing, RrsigKey, SignsNothing, OccludedDnssec, NoNsec, NsecNext, NsecTypes, NoNsec3, Nsec3Next, Nsec3Types, Nsec3Owner, Nsec3Iterations, Nsec3Iterations50, Nsec3Iterations0, NsecTtl, CdsDelete}
+use Rattle.finding_codes.specs.declared.code.Code.TheVariants.{Expired, ExpiresSoon, NotYetValid, RrsigTimes, RrsigSigner, RrsigLabels, RrsigLength, OriginalTtl, RrsigTtl, Unsigned, NoKey, KeyMissing, RrsigKey, KeyLength, SignsNothing, OccludedDnssec, NoNsec, NsecNext, NsecTypes, NoNsec3, Nsec3Next, Nsec3Types, Nsec3Owner, Nsec3Iterations, Nsec3Iterations50, Nsec3Iterations0, NsecTtl, CdsDelete}
 use Rattle.zone_dnssec.specs.declared.subject.Subject.{Subject}
 use Rattle.zone_dnssec.specs.declared.times.Times.{Times}
 
@@ -23,6 +23,7 @@ security_listed R S NotYetValid zone times before r = refl
 security_listed R S RrsigTimes zone times before r = refl
 security_listed R S RrsigSigner zone times before r = refl
 security_listed R S RrsigLabels zone times before r = refl
+security_listed R S RrsigLength zone times before r = refl
 security_listed R S OriginalTtl zone times before r = refl
 security_listed R S RrsigTtl zone times before r = refl
 security_listed R S Unsigned zone times None r = refl
@@ -31,6 +32,7 @@ security_listed R S NoKey zone times None r = refl
 security_listed R S NoKey zone times (Some b) r = refl
 security_listed R S KeyMissing zone times before r = refl
 security_listed R S RrsigKey zone times before r = refl
+security_listed R S KeyLength zone times before r = refl
 security_listed R S SignsNothing zone times before r = refl
 security_listed R S OccludedDnssec zone times before r = refl
 security_listed R S NoNsec zone times None r = refl

@@ -9,9 +9,9 @@ use Rattle.rdata_values.specs.Rtype as Rtype
 use Rattle.zone_record.specs.declared.record.Record.{Record}
 use Rattle.zone_rules.specs.Above.{parent_of}
 use Rattle.zone_rules.specs.Rules.{is_below_zone_cut, is_zone_cut}
-use Rattle.zone_rules.specs.Zones.{type_of, set_type}
+use Rattle.zone_rules.specs.Zones.{field_octets, type_of, set_type}
 use Rattle.zone_dnssec.specs.Nsec3Chain.{iterations_of}
-use Rattle.zone_dnssec.specs.Parameters.{field_octets, names_chain}
+use Rattle.zone_dnssec.specs.Parameters.{names_chain}
 use Rattle.zone_dnssec.specs.SignatureTimes.{number_in}
 use Rattle.zone_dnssec.specs.SignedSets.{belongs_to_parent}
 

@@ -4,6 +4,7 @@ pub mod DeleteForms
 pub mod DenialRecords
 pub mod HashedLinks
 pub mod HashedNames
+pub mod KeyLengths
 pub mod Nsec3Chain
 pub mod NsecChain
 pub mod NsecTypes

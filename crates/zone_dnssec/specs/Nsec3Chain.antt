@@ -10,10 +10,10 @@ use Rattle.rdata_values.specs.Rtype as Rtype
 use Rattle.zone_record.specs.Names.{name_order}
 use Rattle.zone_record.specs.Records.{data_of}
 use Rattle.zone_record.specs.declared.record.Record.{Record}
-use Rattle.zone_rules.specs.Zones.{type_of}
+use Rattle.zone_rules.specs.Zones.{field_octets, type_of}
 use Rattle.zone_dnssec.specs.HashedNames.{name_hash, hashed_owner}
 use Rattle.zone_dnssec.specs.NsecChain.{comes_after}
-use Rattle.zone_dnssec.specs.Parameters.{field_octets, names_chain}
+use Rattle.zone_dnssec.specs.Parameters.{names_chain}
 use Rattle.zone_dnssec.specs.ZoneViews.{ZoneView}
 
 -- ---- the fields: hash algorithm, flags, iterations, salt, and of NSEC3 the next hash (RFC 5155 sections 3.2 and 4.2)

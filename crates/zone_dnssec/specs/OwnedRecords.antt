@@ -1,5 +1,5 @@
 -- Searches among the records of a name: words for private functions.
-use Rattle.std.specs.Prelude.{◌≡◌, ℕ, ◌<◌, ◌≤◌, ◌==◌, ◌&&◌, if◌then◌else◌, nat_lt, Bool, true, false, Option, Some, None, List, slice_get}
+use Rattle.std.specs.Prelude.{◌≡◌, ℕ, ◌<◌, ◌≤◌, ◌==◌, ◌&&◌, if◌then◌else◌, nat_lt, not, Bool, true, false, Option, Some, None, List, slice_get}
 use Rattle.std.specs.List.{AllWithin, find, list_any}
 use Rattle.std.specs.Option.{option_map_or}
 use Rattle.dns_wire.specs.Order.{same_name}
@@ -7,12 +7,13 @@ use Rattle.rdata_values.specs.Rtype as Rtype
 use Rattle.zone_record.specs.declared.record.Record.{Record}
 use Rattle.zone_rules.specs.Zones.{type_of}
 use Rattle.zone_dnssec.specs.DeleteForms.{asks_for_key}
+use Rattle.zone_dnssec.specs.NsecChain.{is_hashed_denial}
 use Rattle.zone_dnssec.specs.NsecTypes.{is_unlisted}
 use Rattle.zone_dnssec.specs.Parameters.{names_chain}
 use Rattle.zone_dnssec.specs.SignedSets.{covers}
 use Rattle.zone_dnssec.specs.ZoneKeys.{fits_key}
 use Rattle.zone_dnssec.specs.declared.owned.Wanted.{Wanted}
-use Rattle.zone_dnssec.specs.declared.owned.Wanted.TheVariants.{Soa, Signature, FittingSignature, Ttl, Unlisted, KeyRequest, Chain}
+use Rattle.zone_dnssec.specs.declared.owned.Wanted.TheVariants.{Soa, Signature, FittingSignature, Ttl, Unlisted, KeyRequest, Chain, MoreThanHashes}
 
 -- the greater of two indexes
 abbrev pub greater_of : ℕ → ℕ → ℕ
@@ -27,6 +28,7 @@ is_wanted_record (Ttl rtype ttl) r = type_of r == rtype && r.ttl == ttl
 is_wanted_record (Unlisted bitmap is_cut) r = is_unlisted is_cut bitmap.now r
 is_wanted_record KeyRequest r = asks_for_key r
 is_wanted_record Chain r = names_chain r
+is_wanted_record MoreThanHashes r = not (is_hashed_denial r)
 
 -- the record at an index is wanted
 abbrev pub is_wanted_in : {N O : Type 0} → Wanted → List (Record N O) → ℕ → Bool

@@ -2,17 +2,10 @@
 use Rattle.std.specs.Prelude.{ℕ, nat_eq, ◌==◌, ◌&&◌, Bool, List, [], ◌∷◌}
 use Rattle.std.specs.Cmp.Lexicographic.{pointwise}
 use Rattle.std.specs.List.{list_any}
-use Rattle.std.specs.Option.{option_map_or}
 use Rattle.dns_wire.specs.Order.{same_name}
 use Rattle.rdata_values.specs.Rtype as Rtype
-use Rattle.zone_record.specs.Parts.{data_part}
-use Rattle.zone_record.specs.Records.{data_of}
 use Rattle.zone_record.specs.declared.record.Record.{Record}
-use Rattle.zone_rules.specs.Zones.{type_of}
-
--- the octets of the field with an index
-abbrev pub field_octets : {N O : Type 0} → ℕ → Record N O → List ℕ
-field_octets place r = option_map_or (λ octets. octets) (data_part (data_of r) place) []
+use Rattle.zone_rules.specs.Zones.{field_octets, type_of}
 
 -- an NSEC3PARAM names a chain if its hash algorithm is 1, SHA-1, and no flags are set (RFC 5155 section 4.1.2)
 abbrev pub names_chain : {N O : Type 0} → Record N O → Bool

@@ -1,5 +1,5 @@
 -- Worked examples of the rules, each computed.
-use Rattle.std.specs.Prelude.{◌≡◌, ℕ, Some, None, nat_le, true, false, List, [], ◌∷◌, codes, refl}
+use Rattle.std.specs.Prelude.{◌≡◌, ℕ, Some, None, nat_le, true, false, List, [], ◌∷◌, codes, replicate, refl}
 use Rattle.rdata_values.specs.Rtype as Rtype
 use Rattle.rdata_values.specs.declared.types.RecordType.{RecordType}
 use Rattle.zone_record.specs.declared.record.Record.{Record}
@@ -9,6 +9,7 @@ use Rattle.zone_dnssec.specs.ChainFaults.{either_faults, faults_with}
 use Rattle.zone_dnssec.specs.ChainLinks.{link_below, link_places, places_where}
 use Rattle.zone_dnssec.specs.DeleteForms.{asks_for_key, is_delete_form}
 use Rattle.zone_dnssec.specs.DenialRecords.{begins_with_hash, is_child, is_occluded}
+use Rattle.zone_dnssec.specs.KeyLengths.{has_key_length}
 use Rattle.zone_dnssec.specs.NsecChain.{comes_after, next_name}
 use Rattle.zone_dnssec.specs.Nsec3Chain.{link_after, link_before}
 use Rattle.zone_dnssec.specs.NsecTypes.{is_unlisted, may_be_listed}
@@ -241,3 +242,33 @@ glue_need_not_be_listed_row = refl
 
 either_row : either_faults (faults_with true false false) (faults_with false false true) ≡ faults_with true false true
 either_row = refl
+
+-- ---- lengths of signatures and keys
+
+-- an RSA key with the exponent 3 and a modulus of this length
+abbrev rsa_key : ℕ → List ℕ
+rsa_key n = 1 ∷ 3 ∷ replicate n 0
+
+short_rsa_row : has_key_length 8 (rsa_key 63) ≡ false
+short_rsa_row = refl
+
+least_rsa_row : has_key_length 8 (rsa_key 64) ≡ true
+least_rsa_row = refl
+
+short_sha512_row : has_key_length 10 (rsa_key 64) ≡ false
+short_sha512_row = refl
+
+no_exponent_row : has_key_length 8 (0 ∷ 0 ∷ 0 ∷ replicate 64 0) ≡ false
+no_exponent_row = refl
+
+three_octets_row : has_key_length 8 (0 ∷ 0 ∷ 1 ∷ 3 ∷ replicate 64 0) ≡ true
+three_octets_row = refl
+
+p256_row : has_key_length 13 (replicate 64 0) ≡ true
+p256_row = refl
+
+short_p256_row : has_key_length 13 (replicate 63 0) ≡ false
+short_p256_row = refl
+
+other_algorithm_row : has_key_length 12 [] ≡ true
+other_algorithm_row = refl

@@ -8,6 +8,7 @@ use Rattle.zone_rules.specs.Zones.{has_type_at, record_before}
 use Rattle.zone_dnssec.specs.DeleteForms.{deletes_beside_keys}
 use Rattle.zone_dnssec.specs.DenialRecords.{denial_ttl, has_other_denial_ttl, has_other_link_owner, is_occluded, iterates_within}
 use Rattle.zone_dnssec.specs.HashedLinks.{fails_chain, names_other_hash}
+use Rattle.zone_dnssec.specs.KeyLengths.{has_other_key_length, has_other_signature_length}
 use Rattle.zone_dnssec.specs.NsecChain.{lacks_nsec, names_other_next}
 use Rattle.zone_dnssec.specs.NsecTypes.{lists_other_types}
 use Rattle.zone_dnssec.specs.SignatureFields.{has_other_labels, has_other_original_ttl, has_other_own_ttl, has_other_signer}
@@ -18,7 +19,7 @@ use Rattle.zone_dnssec.specs.ZoneViews.{ZoneView, zone_with}
 use Rattle.zone_dnssec.specs.declared.hashed.LinkFault.TheVariants.{Missing, DifferentTypes}
 use Rattle.zone_dnssec.specs.declared.rule.SecurityFinding.{SecurityFinding}
 use Rattle.finding_codes.specs.declared.code.Code.{Code}
-use Rattle.finding_codes.specs.declared.code.Code.TheVariants.{Expired, ExpiresSoon, NotYetValid, RrsigTimes, RrsigSigner, RrsigLabels, OriginalTtl, RrsigTtl, Unsigned, NoKey, KeyMissing, RrsigKey, SignsNothing, OccludedDnssec, NoNsec, NsecNext, NsecTypes, NoNsec3, Nsec3Next, Nsec3Types, Nsec3Owner, Nsec3Iterations, Nsec3Iterations50, Nsec3Iterations0, NsecTtl, CdsDelete}
+use Rattle.finding_codes.specs.declared.code.Code.TheVariants.{Expired, ExpiresSoon, NotYetValid, RrsigTimes, RrsigSigner, RrsigLabels, RrsigLength, OriginalTtl, RrsigTtl, Unsigned, NoKey, KeyMissing, RrsigKey, KeyLength, SignsNothing, OccludedDnssec, NoNsec, NsecNext, NsecTypes, NoNsec3, Nsec3Next, Nsec3Types, Nsec3Owner, Nsec3Iterations, Nsec3Iterations50, Nsec3Iterations0, NsecTtl, CdsDelete}
 use Rattle.zone_dnssec.specs.declared.times.Times.{Times}
 
 -- whether a record breaks a rule, which the code of a finding names, beside the one before it
@@ -29,12 +30,14 @@ breaks_security NotYetValid zone times before r = is_early times.instant r
 breaks_security RrsigTimes zone times before r = has_reversed_times r
 breaks_security RrsigSigner zone times before r = has_other_signer zone.origin r
 breaks_security RrsigLabels zone times before r = has_other_labels r
+breaks_security RrsigLength zone times before r = has_other_signature_length (zone_keys zone.origin zone.records) r
 breaks_security OriginalTtl zone times before r = has_other_original_ttl zone.records r
 breaks_security RrsigTtl zone times before r = has_other_own_ttl zone.records r
 breaks_security Unsigned zone times before r = is_missing_signature zone.origin zone.records before r
 breaks_security NoKey zone times before r = lacks_known_key (zone_keys zone.origin zone.records) zone.origin zone.records before r
 breaks_security KeyMissing zone times before r = misses_key (zone_keys zone.origin zone.records) zone.records r
 breaks_security RrsigKey zone times before r = is_by_revoked_key (zone_keys zone.origin zone.records) r
+breaks_security KeyLength zone times before r = has_other_key_length r
 breaks_security SignsNothing zone times before r = signs_nothing zone.records r
 breaks_security OccludedDnssec zone times before r = is_occluded zone.origin zone.records r
 breaks_security NoNsec zone times before r = lacks_nsec zone.origin zone.records before r
@@ -58,7 +61,7 @@ insecure_if is_broken rule place = if is_broken then record { rule = rule; «rec
 -- the rules, in the order in which their findings are reported
 abbrev pub security_rules : List Code
 security_rules =
-    Expired ∷ ExpiresSoon ∷ NotYetValid ∷ RrsigTimes ∷ RrsigSigner ∷ RrsigLabels ∷ OriginalTtl ∷ RrsigTtl ∷ Unsigned ∷ NoKey ∷ KeyMissing ∷ RrsigKey ∷ SignsNothing ∷ OccludedDnssec ∷ NoNsec ∷ NsecNext ∷ NsecTypes ∷ NoNsec3 ∷ Nsec3Next ∷ Nsec3Types ∷ Nsec3Owner ∷ Nsec3Iterations ∷ Nsec3Iterations50 ∷ Nsec3Iterations0 ∷ NsecTtl ∷ CdsDelete ∷ []
+    Expired ∷ ExpiresSoon ∷ NotYetValid ∷ RrsigTimes ∷ RrsigSigner ∷ RrsigLabels ∷ RrsigLength ∷ OriginalTtl ∷ RrsigTtl ∷ Unsigned ∷ NoKey ∷ KeyMissing ∷ RrsigKey ∷ KeyLength ∷ SignsNothing ∷ OccludedDnssec ∷ NoNsec ∷ NsecNext ∷ NsecTypes ∷ NoNsec3 ∷ Nsec3Next ∷ Nsec3Types ∷ Nsec3Owner ∷ Nsec3Iterations ∷ Nsec3Iterations50 ∷ Nsec3Iterations0 ∷ NsecTtl ∷ CdsDelete ∷ []
 
 -- the record at an index breaks the rule
 abbrev pub breaks_security_at : {N O : Type 0} → ZoneView N O → Times → ℕ → Code → Bool

@@ -11,8 +11,7 @@ use Rattle.zone_record.specs.Parts.{data_part}
 use Rattle.zone_record.specs.Records.{data_of}
 use Rattle.zone_record.specs.declared.record.Record.{Record}
 use Rattle.zone_rules.specs.Above.{is_wildcard}
-use Rattle.zone_rules.specs.Zones.{type_of, set_type, has_type_at}
-use Rattle.zone_dnssec.specs.Parameters.{field_octets}
+use Rattle.zone_rules.specs.Zones.{field_octets, type_of, set_type, has_type_at}
 use Rattle.zone_dnssec.specs.SignatureTimes.{number_in}
 
 -- an RRSIG whose signer, the eighth field, is not the zone (RFC 4034 section 3.1.7)

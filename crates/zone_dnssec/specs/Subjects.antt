@@ -10,6 +10,7 @@ use Rattle.zone_rules.specs.Rules.{is_below_zone_cut, is_zone_cut}
 use Rattle.zone_rules.specs.Zones.{as_listed, record_before, set_type, type_of}
 use Rattle.zone_dnssec.specs.DenialRecords.{denial_ttl}
 use Rattle.zone_dnssec.specs.HashedLinks.{fails_chain, names_other_hash}
+use Rattle.zone_dnssec.specs.NsecChain.{is_in_chain}
 use Rattle.zone_dnssec.specs.Parameters.{has_named_chain}
 use Rattle.zone_dnssec.specs.SecurityFindings.{breaks_security, breaks_security_at}
 use Rattle.zone_dnssec.specs.SignedSets.{belongs_to_parent, covers_some_set, is_authoritative}
@@ -62,9 +63,9 @@ abbrev pub is_occluded_by : {M P : Type 0} → OwnerFacts → Record M P → Boo
 is_occluded_by facts r =
     (type_of r == Rtype.rrsig || type_of r == Rtype.nsec) && facts.is_under_cut || type_of r == Rtype.rrsig && (not (belongs_to_parent (set_type r)) && facts.is_cut)
 
--- the zone is authoritative for the owner of the record at an index
-abbrev pub is_authoritative_in : {N O : Type 0} → List (List ℕ) → List (Record N O) → ℕ → Bool
-is_authoritative_in origin records place = option_map_or (λ r. is_authoritative origin records r.owner) (slice_get records place) false
+-- the record at an index is one for which its name is in the chain of NSEC
+abbrev pub is_in_chain_at : {N O : Type 0} → List (List ℕ) → List (Record N O) → ℕ → Bool
+is_in_chain_at origin records place = option_map_or (is_in_chain origin records) (slice_get records place) false
 
 -- octets are the owner of the record at an index, ignoring letter case
 abbrev pub is_owner_in : {N O : Type 0} → List ℕ → List (Record N O) → ℕ → Bool

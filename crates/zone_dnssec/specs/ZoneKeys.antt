@@ -8,9 +8,8 @@ use Rattle.rdata_values.specs.Rtype as Rtype
 use Rattle.rdata_values.specs.declared.types.RecordType.{RecordType}
 use Rattle.zone_record.specs.Records.{data_of}
 use Rattle.zone_record.specs.declared.record.Record.{Record}
-use Rattle.zone_rules.specs.Zones.{type_of, set_type, is_one_set}
+use Rattle.zone_rules.specs.Zones.{field_octets, type_of, set_type, is_one_set}
 use Rattle.zone_dnssec.specs.Nsec3Chain.{short_number}
-use Rattle.zone_dnssec.specs.Parameters.{field_octets}
 use Rattle.zone_dnssec.specs.SignedSets.{covers, has_signature, must_be_signed, starts}
 use Rattle.zone_dnssec.specs.declared.keys.Key.{Key}
 
@@ -53,8 +52,9 @@ modulus_tag octets =
 abbrev pub key_tag : ℕ → List ℕ → List ℕ → Option ℕ
 key_tag algorithm octets key = if algorithm == 1 then modulus_tag (modulus key) else Some (sum_tag octets)
 
-abbrev pub key_with : ℕ → Bool → ℕ → Key
-key_with algorithm is_revoked tag = record { tag = tag; algorithm = algorithm; is_revoked = is_revoked }
+-- of an algorithm and this key, revoked or not, with a key tag
+abbrev pub key_with : ℕ → List ℕ → Bool → ℕ → Key
+key_with algorithm key is_revoked tag = record { tag = tag; algorithm = algorithm; is_revoked = is_revoked; modulus_len = length (modulus key) }
 
 -- data of a DNSKEY: flags of two octets, protocol, algorithm and key. The lowest bit of the first octet is the Zone flag, and the protocol is 3 (RFC
 -- 4034 sections 2.1.1 and 2.1.2). The highest of the second is the REVOKE flag (RFC 5011 section 7)
@@ -64,7 +64,7 @@ key_in (a ∷ []) = None
 key_in (a ∷ b ∷ []) = None
 key_in (a ∷ b ∷ c ∷ []) = None
 key_in (high ∷ low ∷ protocol ∷ algorithm ∷ key) =
-    if high % 2 == 1 && protocol == 3 then option_map (key_with algorithm (nat_le 128 low)) (key_tag algorithm (high ∷ low ∷ protocol ∷ algorithm ∷ key) key) else None
+    if high % 2 == 1 && protocol == 3 then option_map (key_with algorithm key (nat_le 128 low)) (key_tag algorithm (high ∷ low ∷ protocol ∷ algorithm ∷ key) key) else None
 
 -- the key of a DNSKEY, if it signs zones
 abbrev pub keys_of : {N O : Type 0} → Record N O → List Key

@@ -15,6 +15,7 @@ use crate::denial::{
 use crate::faults::{faults_by_number, faults_of_chains, record_before};
 use crate::hashed::MOST_ITERATIONS;
 use crate::keys::{Key, is_of_revoked_key, is_of_unknown_key, is_without_key, keys_at_apex};
+use crate::lengths::{has_other_key_length, has_other_signature_length};
 use crate::links::has_wrong_next;
 use crate::rule::SecurityFinding;
 use crate::sets::{KnownOwner, covers_some_set, is_unsigned, is_without_set, owner_facts_once};
@@ -33,19 +34,21 @@ use zone_rules::names::view;
 use zone_rules::zone_records::OwnerBuffer;
 
 /// The rules, in the order in which their findings are reported.
-const SECURITY_RULES: [Code; 26] = [
+const SECURITY_RULES: [Code; 28] = [
     Code::Expired,
     Code::ExpiresSoon,
     Code::NotYetValid,
     Code::RrsigTimes,
     Code::RrsigSigner,
     Code::RrsigLabels,
+    Code::RrsigLength,
     Code::OriginalTtl,
     Code::RrsigTtl,
     Code::Unsigned,
     Code::NoKey,
     Code::KeyMissing,
     Code::RrsigKey,
+    Code::KeyLength,
     Code::SignsNothing,
     Code::OccludedDnssec,
     Code::NoNsec,
@@ -96,12 +99,14 @@ fn breaks_rule<Z: ZoneRecords>(
         Code::RrsigTimes => has_reversed_times(record),
         Code::RrsigSigner => has_wrong_signer(origin, record),
         Code::RrsigLabels => has_wrong_labels(record),
+        Code::RrsigLength => has_other_signature_length(facts.keys, record),
         Code::OriginalTtl => has_wrong_original_ttl(records, subject),
         Code::RrsigTtl => has_wrong_own_ttl(records, subject),
         Code::Unsigned => is_unsigned(origin, records, subject),
         Code::NoKey => is_without_key(facts.keys, origin, records, subject),
         Code::KeyMissing => is_of_unknown_key(facts.keys, records, subject),
         Code::RrsigKey => is_of_revoked_key(facts.keys, record),
+        Code::KeyLength => has_other_key_length(record),
         Code::SignsNothing => is_without_set(records, subject),
         Code::OccludedDnssec => is_out_of_place(subject),
         Code::NoNsec => is_without_nsec(origin, records, facts.has_chain, subject),

@@ -7,7 +7,7 @@ ghost use Rattle.zone_dnssec.specs.Subjects.{HasOwnerFacts, HasOwnRange};
 ghost use Rattle.zone_dnssec.specs.ZoneKeys.{fits_key, has_fitting_signature, is_by_revoked_key, is_named, key_in, keys_at, key_tag, keys_of, lacks_known_key, long_modulus, misses_key, modulus, modulus_tag, sum_tag, weighed, weighed_sum, zone_keys};
 
 use crate::bitmaps::octets_after;
-use crate::nsec3::{field, short_number};
+use crate::nsec3::short_number;
 use crate::owned::{Wanted, has_at_owner};
 use crate::sets::{is_first_of_set, is_signature_of, is_signed, needs_signature};
 use crate::signatures::first;
@@ -17,6 +17,7 @@ use dns_wire::Name;
 use rdata_values::RecordType;
 use std::alloc::{AllocError, Allocator};
 use zone_rules::ZoneRecords;
+use zone_rules::fields::field;
 use zone_rules::pairs::set_type_of;
 use zone_rules::zone_records::{OwnerBuffer, ZoneRecord};
 
@@ -28,13 +29,14 @@ const KEY_TAG: usize = 6;
 /// The algorithm RSA/MD5, with key tags of its own (RFC 4034 appendix B.1).
 const RSA_MD5: u8 = 1;
 
-/// A key that signs a zone: the key tag and algorithm by which RRSIGs refer to it, and whether it
-/// is revoked (RFC 5011 section 2.1).
+/// A key that signs a zone: the key tag and algorithm by which RRSIGs refer to it, whether it is
+/// revoked (RFC 5011 section 2.1), and the number of octets of its modulus, if it is an RSA key.
 #[derive(Clone, Copy)]
 pub struct Key {
-    tag: u16,
-    algorithm: u8,
+    pub(crate) tag: u16,
+    pub(crate) algorithm: u8,
     is_revoked: bool,
+    pub(crate) modulus_len: usize,
 }
 
 /// Returns what an octet adds to the sum of a key tag: if its index is even, 256 times itself.
@@ -84,7 +86,7 @@ fn long_modulus(octets: &[u8]) -> &[u8]
 }
 
 /// Returns the modulus of an RSA key (RFC 3110 section 2).
-fn modulus(key: &[u8]) -> &[u8]
+pub fn modulus(key: &[u8]) -> &[u8]
     ensures { result.now ≡ modulus key.now }
 {
     match key {
@@ -137,6 +139,7 @@ fn key_in(octets: &[u8]) -> Option<Key>
                     tag,
                     algorithm: *algorithm,
                     is_revoked: *low >= 128,
+                    modulus_len: modulus(key).len(),
                 }),
                 None => None,
             }
@@ -176,7 +179,7 @@ fn add_key_at<Z: ZoneRecords, A: Allocator>(
 /// Returns the keys of the zone: those of the DNSKEYs at its apex.
 ///
 /// Fails if memory for the keys is out.
-pub(crate) fn keys_at_apex<Z: ZoneRecords, A: Allocator>(
+pub fn keys_at_apex<Z: ZoneRecords, A: Allocator>(
     alloc: A,
     origin: &Name<&[u8]>,
     records: &Z,
@@ -192,7 +195,7 @@ pub(crate) fn keys_at_apex<Z: ZoneRecords, A: Allocator>(
 }
 
 /// Returns whether an RRSIG fits a key.
-fn fits(keys: &[Key], record: &ZoneRecord<'_>) -> bool
+pub(crate) fn fits(keys: &[Key], record: &ZoneRecord<'_>) -> bool
     ensures { result ≡ fits_key keys.now «record».now }
 {
     let algorithm = first(field(record, ALGORITHM));

@@ -12,6 +12,7 @@ pub mod faults;
 pub mod hashed;
 pub mod hashes;
 pub mod keys;
+pub mod lengths;
 pub mod links;
 pub mod nsec3;
 pub mod nsec3_hash;

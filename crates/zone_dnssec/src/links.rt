@@ -2,9 +2,10 @@
 ghost use Rattle.std.specs.Prelude.{◌≡◌, ◌<◌, IfSome, length, option_and_then, slice_get};
 ghost use Rattle.dns_octets.specs.Lowered.{same_lowered};
 ghost use Rattle.dns_wire.specs.Wire.{wire};
-ghost use Rattle.zone_dnssec.specs.NsecChain.{names_other_next, next_name, next_record};
-ghost use Rattle.zone_dnssec.specs.Subjects.{is_authoritative_in, is_owner_in, HasOwnerFacts};
+ghost use Rattle.zone_dnssec.specs.NsecChain.{is_in_chain, names_other_next, next_name, next_record};
+ghost use Rattle.zone_dnssec.specs.Subjects.{is_in_chain_at, is_owner_in, HasOwnerFacts};
 
+use crate::chain::is_hashed_denial;
 use crate::owned::greater_of;
 use crate::sets::has_authority;
 use crate::subject::Subject;
@@ -13,16 +14,24 @@ use dns_wire::Name;
 use rdata_values::RecordType;
 use zone_rules::ZoneRecords;
 use zone_rules::names::octets_of;
-use zone_rules::zone_records::OwnerBuffer;
+use zone_rules::zone_records::{OwnerBuffer, ZoneRecord};
 
-/// Returns whether the zone is authoritative for the owner of the record at an index.
-fn has_authority_at<Z: ZoneRecords>(origin: &Name<&[u8]>, records: &Z, place: usize) -> bool
+/// Returns whether a record is one for which its name is in the chain: the zone is authoritative for
+/// the name, and the record is neither an NSEC3 nor a signature of NSEC3s.
+fn is_in_chain<Z: ZoneRecords>(origin: &Name<&[u8]>, records: &Z, record: &ZoneRecord<'_>) -> bool
+    ensures { result ≡ is_in_chain origin.now (Z.contents records.now) «record».now }
+{
+    has_authority(origin, records, &record.owner) && !is_hashed_denial(record)
+}
+
+/// Returns whether the record at an index is one for which its name is in the chain.
+fn is_in_chain_at<Z: ZoneRecords>(origin: &Name<&[u8]>, records: &Z, place: usize) -> bool
     requires { place < length (Z.contents records.now) }
-    ensures { result ≡ is_authoritative_in origin.now (Z.contents records.now) place }
+    ensures { result ≡ is_in_chain_at origin.now (Z.contents records.now) place }
 {
     let mut owner = OwnerBuffer::new();
     let one = records.record(place, &mut owner);
-    has_authority(origin, records, &one.owner)
+    is_in_chain(origin, records, &one)
 }
 
 /// Returns the index of the first record at the name that comes next in the chain.
@@ -38,7 +47,7 @@ fn next_place<Z: ZoneRecords>(
     let (first, past) = records.places(name);
     let from = greater_of(first, past);
     for place in from..records.len() {
-        if has_authority_at(origin, records, place) {
+        if is_in_chain_at(origin, records, place) {
             return Some(place);
         }
     }

@@ -1,11 +1,13 @@
 //! The fields of NSEC3 and NSEC3PARAM records (RFC 5155 sections 3 and 4).
 ghost use Rattle.std.specs.Prelude.{◌≡◌};
 ghost use Rattle.zone_dnssec.specs.Nsec3Chain.{hashed_bitmap, is_link, is_same_field, iterations_of, next_hash_of, opts_out, salt_of, short_number};
-ghost use Rattle.zone_dnssec.specs.Parameters.{field_octets, names_chain};
+ghost use Rattle.zone_dnssec.specs.Parameters.{names_chain};
+ghost use Rattle.zone_rules.specs.Zones.{field_octets};
 
 use crate::bitmaps::octets_after;
 use dns_octets::AsOctets;
 use rdata_values::RecordType;
+use zone_rules::fields::field;
 use zone_rules::zone_records::ZoneRecord;
 
 /// Indexes of fields of NSEC3 and NSEC3PARAM (RFC 5155 sections 3.2 and 4.2).
@@ -18,16 +20,6 @@ const ITERATIONS: usize = 2;
 const SALT: usize = 3;
 
 const NEXT_HASH: usize = 4;
-
-/// Returns the octets of a field.
-pub(crate) fn field<'r>(record: &'r ZoneRecord<'_>, place: usize) -> &'r [u8]
-    ensures { result.now ≡ field_octets place «record».now }
-{
-    match record.data.part(place) {
-        Some(octets) => octets,
-        None => &[],
-    }
-}
 
 /// Returns the number in two octets.
 pub(crate) fn short_number(octets: &[u8]) -> u16

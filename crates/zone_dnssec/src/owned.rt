@@ -5,6 +5,7 @@ ghost use Rattle.zone_dnssec.specs.Subjects.{HasOwnRange};
 ghost use Rattle.zone_rules.specs.Zones.{has_owner};
 
 use crate::bitmaps::is_unlisted;
+use crate::chain::is_hashed_denial;
 use crate::deletes::is_for_key;
 use crate::keys::{Key, is_fitting};
 use crate::nsec3::is_chain;
@@ -34,6 +35,8 @@ pub enum Wanted<'k> {
     KeyRequest,
     /// An NSEC3PARAM that names a chain.
     Chain,
+    /// Neither an NSEC3 nor a signature of NSEC3s.
+    MoreThanHashes,
 }
 
 /// Returns whether a record is wanted.
@@ -48,6 +51,7 @@ fn is_wanted(wanted: &Wanted<'_>, record: &ZoneRecord<'_>) -> bool
         Wanted::Unlisted(bitmap, is_cut) => is_unlisted(bitmap, is_cut, record),
         Wanted::KeyRequest => is_for_key(record),
         Wanted::Chain => is_chain(record),
+        Wanted::MoreThanHashes => !is_hashed_denial(record),
     }
 }
 

@@ -6,7 +6,6 @@ ghost use Rattle.zone_dnssec.specs.Subjects.{HasCoveredSet, HasOwnRange};
 ghost use Rattle.zone_rules.specs.Above.{is_wildcard};
 ghost use Rattle.zone_rules.specs.Zones.{type_of};
 
-use crate::nsec3::field;
 use crate::owned::{Wanted, has_at_owner};
 use crate::subject::Subject;
 use crate::times::number;
@@ -14,6 +13,7 @@ use dns_octets::lowered::same_octets;
 use dns_wire::Name;
 use rdata_values::RecordType;
 use zone_rules::ZoneRecords;
+use zone_rules::fields::field;
 use zone_rules::names::{octets_of, parent};
 use zone_rules::pairs::set_type_of;
 use zone_rules::zone_records::ZoneRecord;

@@ -2,8 +2,8 @@ use Rattle.std.proofs.Common.{ℕ, Bool, rules, tests}
 use Rattle.std.specs.Prelude.{◌==◌, ◌&&◌, not, slice_index}
 use Rattle.std.proofs.lemmas.Iterator.{YieldsList-from_slice}
 use Rattle.std.proofs.lemmas.Iterator.Search.{any_from_yields_List}
+use Rattle.zone_rules.specs.Zones.{field_octets}
 use Rattle.zone_dnssec.specs.Nsec3Chain.{short_number}
-use Rattle.zone_dnssec.specs.Parameters.{field_octets}
 use Rattle.zone_dnssec.specs.declared.keys.Key.{Key}
 use Rattle.zone_dnssec.proofs.keys.fits_valid.Goals as goal
 
