@@ -16,11 +16,12 @@ from urllib.parse import unquote_to_bytes
 
 CRATES = os.path.dirname(os.path.dirname(os.path.abspath(__file__)))
 FRONT = b"@ 60 SOA ns h 1 4 2 9 5\n@ NS ns\n@ NS ns.o.\nns A 192.0.2.1\n"
-TIMES = "20260601000000 20251201000000 1037 example. AA=="
+SIXTY_FOUR = "A" * 86 + "=="
+TIMES = f"20260601000000 20251201000000 1037 example. {SIXTY_FOUR}"
 SIGNED = f"""@ 60 SOA ns h 1 4 2 9 60
 @ NS ns
 @ NS ns.o.
-@ DNSKEY 256 3 13 AA==
+@ DNSKEY 256 3 13 {SIXTY_FOUR}
 @ NSEC ns.example. NS SOA RRSIG NSEC DNSKEY
 @ RRSIG SOA 13 1 60 {TIMES}
 @ RRSIG NS 13 1 60 {TIMES}

@@ -102,6 +102,8 @@ pub fn summary_of(code: Code) -> &'static str {
         Code::Nsec3Iterations0 => "An NSEC3PARAM has iterations",
         Code::NsecTtl => "The TTL of an NSEC or NSEC3 is not that of negative answers",
         Code::CdsDelete => "A CDS or CDNSKEY asks to delete, and another asks for keys",
+        Code::RrsigLength => "A signature has another length than those of its algorithm",
+        Code::KeyLength => "A key has another length than those of its algorithm",
         Code::SpfType => "A record has the type SPF",
         Code::NaptrRegexp => "The regexp of a NAPTR is not a substitution expression",
         Code::NaptrBoth => "A NAPTR has both a regexp and a replacement",
@@ -115,6 +117,15 @@ pub fn summary_of(code: Code) -> &'static str {
         Code::TxtWords => "A TXT that begins with v= has several strings without quotes",
         Code::CommentInData => "A comment begins where a word of a TXT, SPF or CAA ends",
         Code::PtrDot => "The owner and the target of a PTR are below in-addr.arpa or ip6.arpa",
+        Code::TlsaField =>
+            "The usage, selector or matching type of a TLSA or SMIMEA is not assigned",
+        Code::CaaValue =>
+            "The value of a CAA is not of the form of its tag, or its flags are unknown",
+        Code::NullMx => "The exchange of an MX is the root, and its owner has another MX",
+        Code::ZonemdSerial => "The serial of a ZONEMD is not that of the SOA",
+        Code::TlsaHost => "The host of a TLSA has no address in the zone",
+        Code::SvcbAlias =>
+            "An SVCB or HTTPS of priority 0 has parameters, or its name has others of the type",
         Code::Exception => "An exception in a comment is malformed, or names an unknown code",
         Code::UnusedAllow => "An exception in a comment excepts no finding",
     }
@@ -222,7 +233,7 @@ pub fn text_of(code: Code) -> &'static str {
         Code::TargetCname =>
             "The name in an NS, MX or SRV has a CNAME, or is below a DNAME; it must have an address itself (RFC 2181 section 10.3, RFC 6672 section 5.1).",
         Code::TargetMissing =>
-            "The name in an NS, MX or SRV is in this zone, and has no address there (RFC 2181 section 10.3, RFC 2782).",
+            "The name in an NS, MX or SRV is in this zone, and has no address there (RFC 2181 section 10.3, RFC 2782). So is the target of an SVCB or HTTPS (RFC 9460 section 2.4.3), which needs only records if the priority is 0 (section 2.4.2).",
         Code::HostName =>
             "Labels of host names are letters, digits and hyphens, without a hyphen at their ends (RFC 952, RFC 1123 section 2.1). Owners of A, AAAA and MX, and names in NS, MX, SRV, SOA and reverse PTR records are host names. named refuses them.",
         Code::Cds =>
@@ -301,6 +312,10 @@ pub fn text_of(code: Code) -> &'static str {
             "It is the lesser of the TTL and the minimum of the SOA (RFC 9077 section 3).",
         Code::CdsDelete =>
             "A request to delete the DS RRset is the only CDS and CDNSKEY of the zone (RFC 8078 section 4).",
+        Code::RrsigLength =>
+            "It has 64 octets with algorithms 13 and 15, 96 with 14, 114 with 16, and with RSA the length of the modulus of the key (RFC 6605 section 4, RFC 8080 section 4). No validator accepts it.",
+        Code::KeyLength =>
+            "It has 64 octets with algorithm 13, 96 with 14, 32 with 15, 57 with 16. An RSA key has an exponent, and a modulus of 64 to 512 octets, with algorithm 10 of 128 or more (RFC 3110 section 2, RFC 5702 section 2, RFC 6605 section 4, RFC 8080 section 3). No validator uses it.",
         Code::SpfType => "No receiver looks it up: SPF is published as TXT (RFC 7208 section 3.1).",
         Code::NaptrRegexp =>
             "It is empty, or as !ERE!REPLACEMENT!FLAGS: its first octet delimits three parts, and the last is empty or i (RFC 3402 section 3.2). BIND rejects another one.",
@@ -323,6 +338,18 @@ pub fn text_of(code: Code) -> &'static str {
             "The text from the semicolon on is a comment (RFC 1035 section 5.1). Write the text in quotes.",
         Code::PtrDot =>
             "The target is the name of a host (RFC 1035 section 3.5). Without a final dot the origin is appended to it. Names of services, with a label that begins with an underscore, are not reported (RFC 6763 section 4.1).",
+        Code::TlsaField =>
+            "A client doesn't use the record. Usages are 0 to 3, selectors 0 and 1, matching types 0 to 2; 255 is for private use (RFC 6698 sections 7.2 to 7.4, RFC 8162 section 2).",
+        Code::CaaValue =>
+            "A certification authority that can't parse issue or issuewild issues no certificate. Their value is a domain name or nothing, and after a semicolon parameters NAME=VALUE with semicolons between them (RFC 8659 sections 4.2 and 4.3). So is that of issuemail (RFC 9495) and issuevmc. The value of iodef is a URL of mailto, http or https (RFC 8659 section 4.4). The flags are 0, or 128 for a tag that must be understood (section 4.1).",
+        Code::NullMx =>
+            "An MX whose exchange is the root says that the name receives no mail (RFC 7505 section 3). Such a name must have no other MX: senders may reject its mail, or use the other one. Remove one of them.",
+        Code::ZonemdSerial =>
+            "A ZONEMD has the serial of the zone whose digest it is (RFC 8976 section 2.2.1). If the SOA has another, the digest is not checked (section 4), as after a change of the zone without a new digest. Write a new one: zonetext digest --write.",
+        Code::TlsaHost =>
+            "The owner of a TLSA is a port, a transport and the name of a host (RFC 6698 section 3). This host is in the zone, and has no A, AAAA or CNAME there. A wildcard above it gives it none: the TLSA makes the name exist (RFC 4592 section 2.2.3).",
+        Code::SvcbAlias =>
+            "A record of priority 0 is an alias of the service: it has no parameters, and is the only one of its type. Clients ignore its parameters, and the records of other priorities beside it (RFC 9460 sections 2.4.1 and 2.4.2). Of two aliases they use one at random.",
         Code::Exception =>
             "It is written as '; zonetext: allow CODE, CODE' in a comment of the entry whose findings it excepts. A second semicolon begins a remark.",
         Code::UnusedAllow =>
@@ -405,31 +432,32 @@ pub fn example_of(code: Code) -> &'static str {
         Code::Hidden => "sub NS ns\nsub NS ns.o.\nwww.sub CNAME x.o.",
         Code::NoDnskey => "a A 192.0.2.2",
         Code::Expired =>
-            "a A 192.0.2.2\na RRSIG A 13 2 60 20200101000000 20191201000000 1037 example. AA==",
+            "a A 192.0.2.2\na RRSIG A 13 2 60 20200101000000 20191201000000 1037 example. AAAAAAAAAAAAAAAAAAAAAAAAAAAAAAAAAAAAAAAAAAAAAAAAAAAAAAAAAAAAAAAAAAAAAAAAAAAAAAAAAAAAAA==",
         Code::ExpiresSoon =>
-            "a A 192.0.2.2\na RRSIG A 13 2 60 20260107000000 20251201000000 1037 example. AA==",
+            "a A 192.0.2.2\na RRSIG A 13 2 60 20260107000000 20251201000000 1037 example. AAAAAAAAAAAAAAAAAAAAAAAAAAAAAAAAAAAAAAAAAAAAAAAAAAAAAAAAAAAAAAAAAAAAAAAAAAAAAAAAAAAAAA==",
         Code::NotYetValid =>
-            "a A 192.0.2.2\na RRSIG A 13 2 60 20390101000000 20381201000000 1037 example. AA==",
+            "a A 192.0.2.2\na RRSIG A 13 2 60 20390101000000 20381201000000 1037 example. AAAAAAAAAAAAAAAAAAAAAAAAAAAAAAAAAAAAAAAAAAAAAAAAAAAAAAAAAAAAAAAAAAAAAAAAAAAAAAAAAAAAAA==",
         Code::RrsigTimes =>
-            "a A 192.0.2.2\na RRSIG A 13 2 60 20251201000000 20260101000000 1037 example. AA==",
+            "a A 192.0.2.2\na RRSIG A 13 2 60 20251201000000 20260101000000 1037 example. AAAAAAAAAAAAAAAAAAAAAAAAAAAAAAAAAAAAAAAAAAAAAAAAAAAAAAAAAAAAAAAAAAAAAAAAAAAAAAAAAAAAAA==",
         Code::RrsigSigner =>
-            "a A 192.0.2.2\na RRSIG A 13 2 60 20260101000000 20251201000000 1037 other. AA==",
+            "a A 192.0.2.2\na RRSIG A 13 2 60 20260101000000 20251201000000 1037 other. AAAAAAAAAAAAAAAAAAAAAAAAAAAAAAAAAAAAAAAAAAAAAAAAAAAAAAAAAAAAAAAAAAAAAAAAAAAAAAAAAAAAAA==",
         Code::RrsigLabels =>
-            "a A 192.0.2.2\na RRSIG A 13 1 60 20260101000000 20251201000000 1037 example. AA==",
+            "a A 192.0.2.2\na RRSIG A 13 1 60 20260101000000 20251201000000 1037 example. AAAAAAAAAAAAAAAAAAAAAAAAAAAAAAAAAAAAAAAAAAAAAAAAAAAAAAAAAAAAAAAAAAAAAAAAAAAAAAAAAAAAAA==",
         Code::OriginalTtl =>
-            "a A 192.0.2.2\na 60 RRSIG A 13 2 300 20260101000000 20251201000000 1037 example. AA==",
+            "a A 192.0.2.2\na 60 RRSIG A 13 2 300 20260101000000 20251201000000 1037 example. AAAAAAAAAAAAAAAAAAAAAAAAAAAAAAAAAAAAAAAAAAAAAAAAAAAAAAAAAAAAAAAAAAAAAAAAAAAAAAAAAAAAAA==",
         Code::RrsigTtl =>
-            "a A 192.0.2.2\na 300 RRSIG A 13 2 60 20260101000000 20251201000000 1037 example. AA==",
+            "a A 192.0.2.2\na 300 RRSIG A 13 2 60 20260101000000 20251201000000 1037 example. AAAAAAAAAAAAAAAAAAAAAAAAAAAAAAAAAAAAAAAAAAAAAAAAAAAAAAAAAAAAAAAAAAAAAAAAAAAAAAAAAAAAAA==",
         Code::Unsigned => "b A 192.0.2.2",
         Code::NoKey =>
-            "a A 192.0.2.2\na RRSIG A 13 2 60 20260101000000 20251201000000 2 example. AA==",
+            "a A 192.0.2.2\na RRSIG A 13 2 60 20260101000000 20251201000000 2 example. AAAAAAAAAAAAAAAAAAAAAAAAAAAAAAAAAAAAAAAAAAAAAAAAAAAAAAAAAAAAAAAAAAAAAAAAAAAAAAAAAAAAAA==",
         Code::KeyMissing =>
-            "a A 192.0.2.2\na RRSIG A 13 2 60 20260101000000 20251201000000 2 example. AA==",
+            "a A 192.0.2.2\na RRSIG A 13 2 60 20260101000000 20251201000000 2 example. AAAAAAAAAAAAAAAAAAAAAAAAAAAAAAAAAAAAAAAAAAAAAAAAAAAAAAAAAAAAAAAAAAAAAAAAAAAAAAAAAAAAAA==",
         Code::RrsigKey =>
-            "a A 192.0.2.2\na RRSIG A 13 2 60 20260101000000 20251201000000 129 example. AA==",
-        Code::SignsNothing => "b RRSIG A 13 2 60 20260101000000 20251201000000 1037 example. AA==",
+            "a A 192.0.2.2\na RRSIG A 13 2 60 20260101000000 20251201000000 129 example. AAAAAAAAAAAAAAAAAAAAAAAAAAAAAAAAAAAAAAAAAAAAAAAAAAAAAAAAAAAAAAAAAAAAAAAAAAAAAAAAAAAAAA==",
+        Code::SignsNothing =>
+            "b RRSIG A 13 2 60 20260101000000 20251201000000 1037 example. AAAAAAAAAAAAAAAAAAAAAAAAAAAAAAAAAAAAAAAAAAAAAAAAAAAAAAAAAAAAAAAAAAAAAAAAAAAAAAAAAAAAAA==",
         Code::OccludedDnssec =>
-            "sub NS ns\nb.sub RRSIG A 13 3 60 20260101000000 20251201000000 1037 example. AA==",
+            "sub NS ns\nb.sub RRSIG A 13 3 60 20260101000000 20251201000000 1037 example. AAAAAAAAAAAAAAAAAAAAAAAAAAAAAAAAAAAAAAAAAAAAAAAAAAAAAAAAAAAAAAAAAAAAAAAAAAAAAAAAAAAAAA==",
         Code::NoNsec => "b A 192.0.2.2",
         Code::NsecNext => "a NSEC c.example. A RRSIG NSEC",
         Code::NsecTypes => "a NSEC example. AAAA RRSIG NSEC",
@@ -448,6 +476,9 @@ pub fn example_of(code: Code) -> &'static str {
         Code::NsecTtl => "a 7200 NSEC example. A RRSIG NSEC",
         Code::CdsDelete =>
             "@ CDS 0 0 0 00\n@ CDS 1 8 2 0000000000000000000000000000000000000000000000000000000000000000",
+        Code::RrsigLength =>
+            "a A 192.0.2.2\na RRSIG A 13 2 60 20260601000000 20251201000000 1037 example. AA==",
+        Code::KeyLength => "@ DNSKEY 257 3 13 AA==",
         Code::SpfType => "a SPF \"v=spf1 -all\"",
         Code::NaptrRegexp => "a NAPTR 1 1 \"u\" \"x\" \"!a!b\" .",
         Code::NaptrBoth => "a NAPTR 1 1 \"u\" \"x\" \"!a!b!\" b.example.",
@@ -460,6 +491,14 @@ pub fn example_of(code: Code) -> &'static str {
         Code::TxtWords => "a TXT v=spf1 -all",
         Code::CommentInData => "a TXT v=DKIM1; p=abc",
         Code::PtrDot => "$ORIGIN 2.0.192.in-addr.arpa.\n1 PTR host.example",
+        Code::TlsaField =>
+            "_25._tcp.ns TLSA 4 1 1 0000000000000000000000000000000000000000000000000000000000000000",
+        Code::CaaValue => "@ CAA 0 issue \"ca_example\"",
+        Code::NullMx => "a MX 0 .\na MX 10 ns",
+        Code::ZonemdSerial => "@ ZONEMD 2 1 240 000000000000000000000000",
+        Code::TlsaHost =>
+            "_443._tcp.a TLSA 3 1 1 0123456789012345678901234567890123456789012345678901234567890123",
+        Code::SvcbAlias => "a HTTPS 0 o. alpn=h2",
         Code::Exception => "a A 192.0.2.2 ; zonetext: allow tll",
         Code::UnusedAllow => "a A 192.0.2.2 ; zonetext: allow host-name",
     }

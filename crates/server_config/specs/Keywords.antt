@@ -37,7 +37,7 @@ is_primary_word w = same_lowered w (codes "primary") || same_lowered w (codes "m
 -- types of zones
 abbrev pub zone_type_of : List ℕ → Option ZoneType
 zone_type_of w =
-    if is_primary_word w then Some Primary
+    if is_primary_word w || same_lowered w (codes "native") then Some Primary
     else (if same_lowered w (codes "secondary") || same_lowered w (codes "slave") then Some Secondary
     else (if same_lowered w (codes "mirror") then Some Mirror
     else (if same_lowered w (codes "stub") || same_lowered w (codes "static-stub") then Some Stub

@@ -11,7 +11,7 @@ use Rattle.server_config.specs.ZonePaths.{expanded_path}
 use Rattle.server_config.specs.declared.error.ConfigError.{ConfigError}
 use Rattle.server_config.specs.declared.error.ConfigErrorKind.TheVariants.{EmptyStatement, ExpectedWord, MissingBlock, MissingSemicolon, MissingWord, OpenBlock, OpenComment, OpenQuote, Repeated, TrailingWord, UnexpectedClose, UnknownValue, UnquotedString}
 use Rattle.server_config.specs.declared.state.ConfigEvent.{ConfigEvent}
-use Rattle.server_config.specs.declared.state.ConfigEvent.TheVariants.{CloseOptions, CloseView, CloseZone, Directory, End, File, Include, MaxZoneTtl, OpenOptions, OpenView, OpenZone}
+use Rattle.server_config.specs.declared.state.ConfigEvent.TheVariants.{CloseOptions, CloseView, CloseZone, Directory, End, File, Include, MaxZoneTtl, OpenOptions, OpenView, OpenZone, UnknownType}
 use Rattle.server_config.specs.declared.nsd.NsdEvent.{NsdEvent}
 use Rattle.server_config.specs.declared.nsd.NsdEvent.TheVariants as events
 use Rattle.server_config.specs.declared.nsd.NsdSection.TheVariants as sections
@@ -97,11 +97,14 @@ rejected = refl
 abbrev in_a_zone : ConfigError → List (Result ConfigEvent ConfigError)
 in_a_zone e = Ok (OpenZone (record { name = row_quoted 5 8; class = None })) ∷ Err e ∷ []
 
-rejected_zones : map row_events (codes "zone \"a\" { type \"primary\"; };" ∷ codes "zone \"a\" { type x; };" ∷ codes "zone \"a\" { type hint; type hint; };" ∷ codes "zone \"a\" { file zones/d; };" ∷ codes "zone \"a\" { file d; };" ∷ codes "zone \"a\" {" ∷ codes "zone \"a\" { masterfile-format x; };" ∷ codes "zone \"a\" { check-names primary fail; };" ∷ codes "zone \"a\" { file \"d\" };" ∷ [])
-    ≡ map in_a_zone (error_between 16 25 ExpectedWord ∷ error_between 16 17 UnknownValue ∷ error_between 22 26 Repeated ∷ error_between 16 21 UnquotedString
+rejected_zones : map row_events (codes "zone \"a\" { type \"primary\"; };" ∷ codes "zone \"a\" { type hint; type hint; };" ∷ codes "zone \"a\" { file zones/d; };" ∷ codes "zone \"a\" { file d; };" ∷ codes "zone \"a\" {" ∷ codes "zone \"a\" { masterfile-format x; };" ∷ codes "zone \"a\" { check-names primary fail; };" ∷ codes "zone \"a\" { file \"d\" };" ∷ [])
+    ≡ map in_a_zone (error_between 16 25 ExpectedWord ∷ error_between 22 26 Repeated ∷ error_between 16 21 UnquotedString
     ∷ error_between 16 17 UnquotedString ∷ error_between 0 4 OpenBlock ∷ error_between 29 30 UnknownValue ∷ error_between 31 35 TrailingWord
     ∷ error_between 20 21 MissingSemicolon ∷ [])
 rejected_zones = refl
+
+unknown_type : row_events (codes "zone \"a\" { type x; };") ≡ Ok (OpenZone (record { name = row_quoted 5 8; class = None })) ∷ Ok (UnknownType (row_word 16 17)) ∷ Ok CloseZone ∷ Ok End ∷ []
+unknown_type = refl
 
 no_semicolon : row_events (codes "zone \"a\" { } zone b { };") ≡ Ok (OpenZone (record { name = row_quoted 5 8; class = None })) ∷ Ok CloseZone ∷ Err (error_between 13 17 MissingSemicolon) ∷ []
 no_semicolon = refl

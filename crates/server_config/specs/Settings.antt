@@ -2,13 +2,13 @@
 use Rattle.std.specs.Prelude.{false, if◌then◌else◌, Option, None, Some}
 use Rattle.server_config.specs.declared.settings.FileFormat.{FileFormat}
 use Rattle.server_config.specs.declared.settings.FileFormat.TheVariants.{Map, Raw, Text}
-use Rattle.server_config.specs.declared.settings.OmitReason.TheVariants.{Database, Format, InView, OtherType, Template}
+use Rattle.server_config.specs.declared.settings.OmitReason.TheVariants.{Database, Format, InView, OtherType, Template, UnknownType}
 use Rattle.server_config.specs.declared.settings.Settings.{Settings}
 use Rattle.server_config.specs.declared.settings.ZoneOutcome.{ZoneOutcome}
 use Rattle.server_config.specs.declared.settings.ZoneOutcome.TheVariants.{Checked, NoFile, NoType, Omitted}
 use Rattle.server_config.specs.declared.settings.ZoneSettings.{ZoneSettings}
 use Rattle.server_config.specs.declared.settings.ZoneType.{ZoneType}
-use Rattle.server_config.specs.declared.settings.ZoneType.TheVariants.{DelegationOnly, Forward, Hint, Mirror, Primary, Redirect, Secondary, Stub}
+use Rattle.server_config.specs.declared.settings.ZoneType.TheVariants.{DelegationOnly, Forward, Hint, Mirror, Primary, Redirect, Secondary, Stub, Unknown}
 
 -- nothing is set
 abbrev pub no_settings : Settings
@@ -36,7 +36,7 @@ format_outcome None = Checked
 abbrev pub primary_outcome : ZoneSettings → Option FileFormat → ZoneOutcome
 primary_outcome z format = if z.has_database then Omitted Database else (if z.has_file then format_outcome format else NoFile)
 
--- a zone of another type is left out
+-- a zone of another type, or of one that is not known, is left out
 abbrev pub typed_outcome : ZoneSettings → Option FileFormat → Option ZoneType → ZoneOutcome
 typed_outcome z format (Some Primary) = primary_outcome z format
 typed_outcome z format (Some Secondary) = Omitted OtherType
@@ -46,6 +46,7 @@ typed_outcome z format (Some Hint) = Omitted OtherType
 typed_outcome z format (Some Forward) = Omitted OtherType
 typed_outcome z format (Some Redirect) = Omitted OtherType
 typed_outcome z format (Some DelegationOnly) = Omitted OtherType
+typed_outcome z format (Some Unknown) = Omitted UnknownType
 typed_outcome z format None = NoType
 
 -- and so is one of another view, or with a template

@@ -15,10 +15,11 @@ use Rattle.server_config.specs.declared.settings.FileFormat.{FileFormat}
 use Rattle.server_config.specs.declared.settings.Settings.{Settings}
 use Rattle.server_config.specs.declared.settings.Severity.{Severity}
 use Rattle.server_config.specs.declared.settings.ZoneType.{ZoneType}
+use Rattle.server_config.specs.declared.settings.ZoneType.TheVariants.{Unknown}
 use Rattle.server_config.specs.declared.state.ConfigBlock.{ConfigBlock}
 use Rattle.server_config.specs.declared.state.ConfigBlock.TheVariants.{Options, Outside, View, Zone, ZoneInView}
 use Rattle.server_config.specs.declared.state.ConfigEvent.{ConfigEvent}
-use Rattle.server_config.specs.declared.state.ConfigEvent.TheVariants.{Directory, File, Include, MaxZoneTtl, Passed}
+use Rattle.server_config.specs.declared.state.ConfigEvent.TheVariants.{Directory, File, Include, MaxZoneTtl, Passed, UnknownType}
 use Rattle.server_config.specs.declared.state.ConfigState.{ConfigState}
 use Rattle.server_config.specs.declared.state.ConfigStep.{ConfigStep}
 use Rattle.server_config.specs.declared.token.ConfigToken.{ConfigToken}
@@ -114,7 +115,7 @@ abbrev pub with_type : ConfigState → Option ZoneType → ConfigState
 with_type s zone_type = with_zone s (record s.zone { zone_type = zone_type })
 
 abbrev pub typed_step : ConfigState → Clause → ConfigToken → Option ZoneType → Result ConfigStep ConfigError
-typed_step s c t None = error_of_token t UnknownValue
+typed_step s c t None = Ok (step_to (UnknownType t) (with_type s (Some Unknown)) c.next)
 typed_step s c t (Some zone_type) = pass (with_type s (Some zone_type)) c
 
 abbrev pub type_step : List ℕ → ConfigState → Clause → ClauseWords → ConfigToken → Result ConfigStep ConfigError

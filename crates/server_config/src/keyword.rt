@@ -95,7 +95,7 @@ pub(crate) fn read_keyword(word: &[u8]) -> Keyword
 pub(crate) fn read_zone_type(word: &[u8]) -> Option<ZoneType>
     ensures { result ≡ zone_type_of word.now }
 {
-    if is_primary_word(word) {
+    if is_primary_word(word) || same_octets(word, b"native") {
         return Some(ZoneType::Primary);
     }
     if same_octets(word, b"secondary") || same_octets(word, b"slave") {

@@ -8,6 +8,7 @@ use crate::settings::OmitReason;
 #[derive(Clone, Copy)]
 pub struct OmittedCounts {
     pub other_type: usize,
+    pub unknown_type: usize,
     pub in_view: usize,
     pub database: usize,
     pub format: usize,
@@ -21,6 +22,7 @@ impl OmittedCounts {
     {
         OmittedCounts {
             other_type: 0,
+            unknown_type: 0,
             in_view: 0,
             database: 0,
             format: 0,
@@ -35,6 +37,10 @@ impl OmittedCounts {
         match reason {
             OmitReason::OtherType => OmittedCounts {
                 other_type: self.other_type.saturating_add(1),
+                ..self
+            },
+            OmitReason::UnknownType => OmittedCounts {
+                unknown_type: self.unknown_type.saturating_add(1),
                 ..self
             },
             OmitReason::InView => OmittedCounts {

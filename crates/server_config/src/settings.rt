@@ -5,7 +5,7 @@ ghost use Rattle.server_config.specs.Settings.{no_settings, no_zone_settings, pr
 /// The type of a zone.
 #[derive(Clone, Copy, Debug, PartialEq, Eq)]
 pub enum ZoneType {
-    /// `primary` or `master`.
+    /// `primary`, `master`, or `native`, which PowerDNS has for a primary zone.
     Primary,
     /// `secondary` or `slave`.
     Secondary,
@@ -21,6 +21,8 @@ pub enum ZoneType {
     Redirect,
     /// `delegation-only`.
     DelegationOnly,
+    /// Another word.
+    Unknown,
 }
 
 /// The format of a zone's file: `masterfile-format`.
@@ -80,6 +82,8 @@ pub enum OmitReason {
     Template,
     /// The zone is of another type than primary.
     OtherType,
+    /// The type of the zone is not known.
+    UnknownType,
     /// The records are in a database.
     Database,
     /// The file is not in presentation format.
@@ -176,6 +180,7 @@ pub fn zone_outcome(zone: &ZoneSettings, outer: &Settings) -> ZoneOutcome
     }
     match zone.zone_type {
         Some(ZoneType::Primary) => primary_outcome(zone, zone.settings.within(outer).format),
+        Some(ZoneType::Unknown) => ZoneOutcome::Omitted(OmitReason::UnknownType),
         Some(_) => ZoneOutcome::Omitted(OmitReason::OtherType),
         None => ZoneOutcome::NoType,
     }

@@ -80,6 +80,8 @@ pub enum ConfigEvent {
     File(ConfigToken),
     /// The largest TTL of the zones of the block.
     MaxZoneTtl(ConfigToken),
+    /// The type of the zone, a word that is not known.
+    UnknownType(ConfigToken),
     /// The view begins.
     OpenView(BlockName),
     /// The zone begins.

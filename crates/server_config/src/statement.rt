@@ -182,7 +182,7 @@ fn file_step(
     }
 }
 
-/// Sets the type of a zone. Fails with `UnknownValue`.
+/// Sets the type of a zone.
 fn typed_step(
     state: ConfigState,
     clause: Clause,
@@ -191,14 +191,15 @@ fn typed_step(
 ) -> Result<ConfigStep, ConfigError>
     ensures { result ≡ typed_step state clause token zone_type }
 {
-    if zone_type.is_none() {
-        return Err(error_at_token(token, ConfigErrorKind::UnknownValue));
-    }
     let zone = ZoneSettings {
-        zone_type,
+        zone_type: Some(zone_type.unwrap_or(ZoneType::Unknown)),
         ..state.zone
     };
-    pass(state.with_zone(zone), clause)
+    let state = state.with_zone(zone);
+    if zone_type.is_none() {
+        return Ok(step_to(ConfigEvent::UnknownType(token), state, clause));
+    }
+    pass(state, clause)
 }
 
 /// Reads `type`.

@@ -1,0 +1,2 @@
+pub mod Baselines
+pub mod CodeCounts

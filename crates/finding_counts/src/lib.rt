@@ -1,0 +1,9 @@
+//! Findings by number: how many each code has, and which of them a baseline knows.
+//!
+//! - [`code_count`] counts the findings of each severity and code, and the zones that have one, and
+//!   sorts these counts.
+//! - [`baseline`] has the lines of a baseline: keys of findings, and the number of each.
+#![tactic(auto)]
+
+pub mod baseline;
+pub mod code_count;
