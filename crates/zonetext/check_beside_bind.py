@@ -28,8 +28,6 @@ HERE = os.path.dirname(os.path.realpath(__file__))
 ROWS = f"{HERE}/../test_records/rows"
 TYPES = f"{HERE}/../rdata/src/types.rt"
 ORIGIN = "example."
-# Types whose presentation format BIND reads and zonetext doesn't.
-LEFT_OUT = {"HIP"}
 # An owner has at most one record of these types, and no other record.
 ALONE = {"CNAME", "DNAME", "SOA"}
 COMPILE = ["-i", "none", "-k", "ignore", "-m", "ignore", "-n", "ignore", "-M", "ignore", "-S", "ignore"]
@@ -45,7 +43,7 @@ def pool():
             if call != "data" or len(fields) != 3 or fields[2].startswith("!"):
                 continue
             kind, text, octets = fields[0], unquote_to_bytes(fields[1]), unquote_to_bytes(fields[2])
-            if kind.upper() not in LEFT_OUT and is_plain(text):
+            if is_plain(text):
                 found.append((kind, text, octets))
     return found
 
@@ -68,7 +66,7 @@ def words_of(text):
 
 
 def compiled(path, scratch):
-    """The records that BIND reads of a file: owner, class, type, time to live, octets of the data."""
+    """The records that BIND reads of a file: owner, class, type, TTL, octets of the data."""
     raw = f"{scratch}/raw"
     words = ["named-compilezone", *COMPILE, "-F", "raw", "-o", raw, ORIGIN, path]
     ran = subprocess.run(words, capture_output=True, text=True, errors="replace", check=False)

@@ -279,7 +279,7 @@ def datum(rng):
 
 
 def zone(rng, size):
-    """The lines of a zone: of each owner and type one time to live."""
+    """The lines of a zone: of each owner and type one TTL."""
     ttls = {}
     lines = [f'@ 3600 IN SOA Ns1 h {rng.randint(1, 9)} 1 2 3 4']
     for _ in range(size):

@@ -69,7 +69,7 @@ SHA512 = ('500D47A50C572D7F9501A01A5FA1FC2B64B1E9A58198784A6D9B0AB95FBBA8A1'
 
 
 def added(ttl, serial, algorithm, digest, owner='@'):
-    """The line that is added: the time to live ends in column 30, the class is in 32, the type in 35."""
+    """The line that is added: the TTL ends in column 30, the class is in 32, the type in 35."""
     return f'{owner}{ttl:>{30 - len(owner)}} IN ZONEMD {serial} 1 {algorithm} {digest}\n'
 
 

@@ -430,6 +430,47 @@ def signer_rows():
     os.chdir('..')
 
 
+def changed_rows():
+    """The old serial and records, the serial and records of the file, the options, and the new serial if it rises."""
+    other = REST.replace('192.0.2.1', '192.0.2.2')
+    for title, old, serial, rest, words, new in [
+        ('the same', 5, 5, REST, (), None),
+        ('the serial alone', 5, 6, REST, (), None),
+        ('a serial that fell, alone', 5, 4, REST, (), None),
+        ('another layout', 5, 5, '; a remark\n' + REST.replace(' IN ', '  '), (), None),
+        ('another record', 5, 5, other, (), 6),
+        ('another TTL', 5, 5, REST.replace('3600', '60'), (), 6),
+        ('one record more', 5, 5, REST + 'a 60 A 192.0.2.3\n', (), 6),
+        ('a serial that rose', 5, 6, other, (), None),
+        ('a serial that rose far', 4294967295, 3, other, (), None),
+        ('a serial that fell', 9, 5, other, (), 10),
+        ('a date', 2026112601, 2026112601, other, DAY, 2026112602),
+        ('a date that fell', 2026112605, 2026112601, other, DAY, 2026112606),
+        ('a number', 5, 5, other, ('--set', '7'), 7),
+    ]:
+        before, text = SOA.replace('{}', str(old)) + REST, SOA.replace('{}', str(serial)) + rest
+        put('old', before)
+        fresh(text)
+        told = '' if new is None else f'zones/z: {serial} -> {new}\n'
+        same(f'if changed, {title}', write('--if-changed', 'old', *words), (0, told, ''))
+        same(f'if changed, {title}: the file', held('zones/z'), text if new is None else SOA.replace('{}', str(new)) + rest)
+        fresh(text)
+        ran_by = run('serial', '--write', '--zone', 'example.', '--if-changed', '-', *words, 'zones/z', given=before)
+        same(f'if changed, {title}, standard input', ran_by, (0, told, ''))
+    put('old', ZONE.replace('{}', '5'))
+    fresh(ZONE.replace('{}', '5') + 'a 60 A 192.0.2.3\n')
+    for words, said in [(('--set', '5'), 'is the serial already\n'), (('--set', '4'), 'goes back')]:
+        status, printed, err = write('--if-changed', 'old', *words)
+        same(f'if changed, {words}', (status, printed, said in err), (1, '', True))
+    same('no old file', (write('--if-changed', 'gone')[0], held('zones/z')), (3, ZONE.replace('{}', '5') + 'a 60 A 192.0.2.3\n'))
+    put('old', 'nonsense\n')
+    same('no old zone', write('--if-changed', 'old')[0], 1)
+    put('other', ZONE)
+    same('two files', run('serial', '--write', '--if-changed', 'old', '--zone', 'example.', 'zones/z', 'other'),
+         (2, '', 'zonetext: serial --if-changed wants one file\n'))
+    same('without --write', run('serial', '--if-changed', 'old', '--zone', 'example.', 'zones/z')[0], 2)
+
+
 def main():
     with tempfile.TemporaryDirectory() as scratch:
         os.chdir(scratch)
@@ -437,6 +478,7 @@ def main():
         set_rows()
         text_rows()
         refusal_rows()
+        changed_rows()
         several_rows()
         name_rows()
         if shutil.which('dnssec-signzone') and shutil.which('dnssec-keygen'):

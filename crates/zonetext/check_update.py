@@ -182,6 +182,36 @@ def serial_rows():
     same('a serial that fell', run('diff', '--need-serial', 'risen', 'same')[0], 4)
 
 
+def removed_rows():
+    """Records of the old file: 10 addresses, an NS and its address count, but not the SOA."""
+    front = [f'a{it} A 192.0.2.{it}\n' for it in range(10)]
+    put('old', zone(5, ''.join(front)))
+    put('less', zone(6, ''.join(front[4:])))
+    put('other', zone(6, ''.join(front[:9]) + 'a9 A 192.0.2.99\n'))
+    put('ttls', zone(6, ''.join(front).replace(' A', ' 7 A')))
+    put('signed', zone(5, ''.join(front) + 'a1 RRSIG A 8 2 300 20300101000000 20200101000000 1 example. AAAA\na1 NSEC a2 A\n'))
+    total = run('canon', '--no-soa', 'old')[1].count('\n')
+    lines = run('diff', 'old', 'less')[1]
+    for limit, most in [('4', 4), ('3', 3), ('0', 0), ('100%', total), ('0%', 0), ('34%', 34 * total // 100), ('33%', 33 * total // 100)]:
+        said = f'zonetext: 4 of {total} records removed, at most {most}\n'
+        wanted = (1, lines, '') if most >= 4 else (4, '', said)
+        same(f'at most {limit}', run('diff', '--max-removed', limit, 'old', 'less'), wanted)
+        same(f'at most {limit}, --summary', run('diff', '--summary', '--max-removed', limit, 'old', 'less')[0], wanted[0])
+        same(f'at most {limit}, --json', run('diff', '--json', '--max-removed', limit, 'old', 'less')[0], wanted[0])
+        status, printed, err = run('diff', '--nsupdate', '--max-removed', limit, 'old', 'less')
+        same(f'at most {limit}, --nsupdate', (status, printed == '', err), (wanted[0], most < 4, wanted[2]))
+    same('other data', run('diff', '--max-removed', '0', 'old', 'other')[0], 4)
+    same('other data, one', run('diff', '--max-removed', '1', 'old', 'other')[0], 1)
+    same('TTLs', run('diff', '--max-removed', '0', 'old', 'ttls')[0], 1)
+    same('signatures', run('diff', '--max-removed', '0', 'signed', 'old')[0], 1)
+    same('additions', run('diff', '--max-removed', '0', 'less', 'old')[0], 1)
+    same('no changes', run('diff', '--max-removed', '0', 'old', 'old'), (0, '', ''))
+    for value in '', '%', '101%', '-1', '1.5%', 'x':
+        same(f'--max-removed {value!r}', run('diff', f'--max-removed={value}', 'old', 'less'),
+             (2, '', f'zonetext: --max-removed {value}: wants a number of records, or a share up to 100%\n'))
+    same('with --entries', run('diff', '--entries', '--max-removed', '1', 'old', 'less')[0], 2)
+
+
 def lenient_rows():
     put('bad', '$TTL 60\na A 192.0.2.2\nb A 192.0.2\nc TXT "x\nd A 192.0.2.4\n')
     fault = 'bad:{}: error: '
@@ -323,6 +353,7 @@ def main():
         os.chdir(folder)
         rows()
         serial_rows()
+        removed_rows()
         lenient_rows()
         missing = [tool for tool in TOOLS if not shutil.which(tool)]
         if missing:

@@ -1,5 +1,5 @@
 //! The command `check`: reports what is wrong with zone files.
-use crate::many_zones;
+use crate::{baseline_file, many_zones};
 use clap::ArgMatches;
 use dns_wire::DisplayWithDot;
 use finding_codes::code::Code;
@@ -10,10 +10,11 @@ use std::fs::metadata;
 use std::io::{IsTerminal, Write};
 use std::{env, io};
 use zone_dnssec::Times;
-use zone_reader::State;
+use zone_reader::{NameBuffer, State};
 use zonetext_checker::checker::{Checker, Limits};
 use zonetext_files::files::check_text;
 use zonetext_files::generated::{GenerateMode, GenerateOptions};
+use zonetext_files::journals::{has_journal, report_journal};
 use zonetext_files::shown::Shown;
 use zonetext_files::stop::{RunError, exit_status};
 use zonetext_files::zone_files::{Begin, shown_name, visit_file};
@@ -57,6 +58,10 @@ pub struct Options<'o> {
     pub folders: &'o [&'o str],
     pub base: Option<&'o str>,
     pub stdin_name: Option<&'o str>,
+    /// The directory below which absolute paths of included files are, if there is one.
+    pub root: Option<&'o str>,
+    /// The types whose entries are skipped.
+    pub skipped: &'o [&'o str],
     pub zone: Zone<'o>,
     /// The times for signatures, if they are checked.
     pub times: Option<Times>,
@@ -66,6 +71,8 @@ pub struct Options<'o> {
     pub is_quiet: bool,
     /// Whether the zone is one of many.
     pub is_many: bool,
+    /// Whether warnings are counted, but not shown.
+    pub omits_warnings: bool,
 }
 
 /// Returns the code that an option names.
@@ -95,16 +102,26 @@ fn push_codes<'o>(
     Ok(())
 }
 
+/// Returns whether the environment asks for output without colours.
+fn is_plain_output(rt: &HostRuntime) -> bool {
+    let has_no_color = match env::var(rt, "NO_COLOR") {
+        Ok(value) => !value.is_empty(),
+        Err(_) => false,
+    };
+    let is_dumb = match env::var(rt, "TERM") {
+        Ok(value) => value.as_str() == "dumb",
+        Err(_) => false,
+    };
+    has_no_color || is_dumb
+}
+
 /// Returns how findings are shown: whether output is coloured, and whether it goes to a terminal.
 fn form_of<'o>(rt: &HostRuntime, inner: &'o ArgMatches) -> Result<Form, Usage<'o>> {
     if let Some(format) = machine::asked(inner) {
         return Ok(Form::Machine(format));
     }
     let is_terminal = rt.stderr().is_terminal();
-    let is_plain = match env::var(rt, "NO_COLOR") {
-        Ok(value) => !value.is_empty(),
-        Err(_) => false,
-    };
+    let is_plain = is_plain_output(rt);
     let value = inner.get_str("color").unwrap_or("auto");
     let has_excerpt = is_terminal || inner.get_flag("excerpt");
     match value {
@@ -152,7 +169,7 @@ fn options_of<'o>(
         form,
         most: match most {
             Some(most) => most as usize,
-            None if matches!(form, Form::Machine(_)) => 0,
+            None if matches!(form, Form::Machine(_)) || inner.get_flag("summary") => 0,
             None => MOST,
         },
         denied: codes.denied.as_slice(),
@@ -177,12 +194,15 @@ fn options_of<'o>(
         folders: inner.get_strs("include").unwrap_or(&[]),
         base: inner.get_str("base"),
         stdin_name: inner.get_str("stdin-name"),
+        root: inner.get_str("root"),
+        skipped: inner.get_strs("skip-type").unwrap_or(&[]),
         zone,
         times: times_of(rt, inner, is_many || zone.is_set())?,
         is_verbose: inner.get_flag("verbose"),
         is_text,
         is_quiet: inner.get_flag("quiet"),
         is_many: false,
+        omits_warnings: inner.get_flag("errors-only"),
     })
 }
 
@@ -223,6 +243,9 @@ fn settings_of(rt: &HostRuntime, path: &str, options: &Options) -> Result<Settin
     for folder in options.folders {
         settings.folders.push(String::from_str(alloc, folder)?)?;
     }
+    for word in options.skipped {
+        settings.skipped.push(String::from_str(alloc, word)?)?;
+    }
     if let Some(base) = options.base {
         settings.base = Some(String::from_str(alloc, base)?);
     }
@@ -236,6 +259,12 @@ fn paths_of(alloc: Global, folders: &[String]) -> Result<Vec<&str>, AllocError> 
         paths.push(folder.as_str())?;
     }
     Ok(paths)
+}
+
+/// Returns whether a file has an SOA, and the rules of its zone are not checked, since no zone is set.
+fn lacks_zone(options: &Options, checker: &Checker) -> bool {
+    let shows_lines = matches!(options.form, Form::Lines { .. });
+    shows_lines && !options.is_text && !options.zone.is_set() && checker.seen.is_some()
 }
 
 /// Checks a file, and reports the findings.
@@ -255,6 +284,7 @@ fn check_entries(
         state,
         folders: folders.as_slice(),
         base: settings.base.as_ref().map(|base| base.as_str()),
+        root: options.root,
         stdin_name: options.stdin_name,
         is_quiet: options.is_quiet,
     };
@@ -272,6 +302,9 @@ fn check_entries(
         many_zones::begin_summary(rt, name, options.zone, reporter, options.form)?;
     }
     checker.findings.reporter.summarize()?;
+    if rt.stderr().is_terminal() && lacks_zone(options, checker) {
+        eprintln!(rt; "rules of the zone not checked: --zone ORIGIN or --zone-from-name")?;
+    }
     if options.is_verbose {
         let name = shown_name(file, options.stdin_name);
         report_zone(rt, name, checker, options.form)?;
@@ -296,6 +329,17 @@ fn check_file(rt: &HostRuntime, file: &str, options: &Options, totals: &mut Tota
         Ok(settings) => check_with(rt, file, options, &settings, totals),
         Err(error) => error.exit_status(rt, path.as_str()),
     }
+}
+
+/// Returns what the keys of findings have in place of a zone: its name in lower case, or the file if
+/// no zone is set.
+fn zone_key(alloc: Global, file: &str, zone: &Option<NameBuffer>) -> Result<String, AllocError> {
+    let Some(zone) = zone else {
+        let file = Shown(file);
+        return format!(in alloc; "{file}");
+    };
+    let name = DisplayWithDot::new(zone).to_string(alloc)?;
+    name.to_ascii_lowercase(alloc)
 }
 
 /// Returns the number of octets of a file, if that is known before it is read.
@@ -340,18 +384,27 @@ fn check_with(
         None => state,
     };
     let mut reporter = Reporter::new(rt, policy, options.form, options.most);
-    if options.most > 0 {
-        // (errors are shown before warnings)
+    if options.omits_warnings {
+        reporter.omit_warnings();
+    }
+    reporter.zone_key = match zone_key(rt.alloc(), name, &zone) {
+        Ok(key) => key,
+        Err(_) => return exit_status(rt, name, RunError::OutOfMemory),
+    };
+    reporter.ledger = totals.ledger.take();
+    if options.most > 0 || reporter.ledger.has_keys() {
+        // (errors are shown before warnings, and a baseline knows the first findings of a key)
         reporter.wait();
     }
     let mut checker = Checker::new(rt, reporter, limits, zone);
     checker.findings.reporter.before.has_finding = totals.has_finding;
+    checker.skipped = settings.skipped.as_slice();
     if let Some(size) = size_of(rt, file) {
         checker.expect(size);
     }
     let checked = check_entries(rt, file, options, settings, &mut checker, state);
     let ended = checker.findings.reporter.end_file();
-    totals.add(&checker.findings.reporter);
+    totals.add(&mut checker.findings.reporter);
     match checked.and(ended) {
         Ok(()) => checker.findings.reporter.tally.status(),
         Err(stop) => exit_status(rt, name, stop),
@@ -364,7 +417,10 @@ fn asks_for_findings(inner: &ArgMatches) -> bool {
     let has_codes = inner.get_strs("deny").is_some() || inner.get_strs("allow").is_some();
     let has_most = inner.get_str("max").is_some() || inner.get_str("color").is_some();
     let has_form = machine::asked(inner).is_some() || inner.get_flag("excerpt");
-    has_codes || has_most || has_form || inner.get_flag("strict")
+    let has_baseline = inner.get_str("baseline").is_some()
+        || inner.get_str("write-baseline").is_some();
+    let has_fewer = has_baseline || inner.get_flag("errors-only") || inner.get_flag("summary");
+    has_fewer || has_codes || has_most || has_form || inner.get_flag("strict")
 }
 
 /// Reports where files are not zone files, and returns the greatest status.
@@ -388,7 +444,14 @@ pub fn check_argument(
     if options.zone.lacks_name(name) {
         return report_no_zone(rt, name);
     }
-    Ok(check_file(rt, file, options, totals))
+    let status = check_file(rt, file, options, totals);
+    if has_journal(rt, file)? {
+        totals.journals = totals.journals.saturating_add(1);
+        if !options.is_many {
+            report_journal(rt, name)?;
+        }
+    }
+    Ok(status)
 }
 
 /// Checks files by the arguments, and returns the greatest status.
@@ -403,13 +466,30 @@ fn check_files(
         Ok(options) => options,
         Err(usage) => return options::status_of(rt, Err(usage)),
     };
-    if is_many {
-        return many_zones::run(rt, inner, &options);
-    }
     let mut totals = Totals::new(options.form);
+    match baseline_file::ledger_of(rt, inner, options.form) {
+        Ok(Ok(ledger)) => totals.ledger = ledger,
+        Ok(Err(usage)) => return options::status_of(rt, Err(usage)),
+        Err(error) => return Ok(error.exit_status(rt)),
+    }
+    let status = if is_many {
+        many_zones::run(rt, inner, &options, &mut totals)?
+    } else {
+        check_each(rt, files, &options, &mut totals)?
+    };
+    baseline_file::finish(rt, inner, &totals, status)
+}
+
+/// Checks files, and returns the greatest status.
+fn check_each(
+    rt: &HostRuntime,
+    files: &[&str],
+    options: &Options,
+    totals: &mut Totals,
+) -> io::Result<u8> {
     let mut status = totals.start(rt);
     for file in files {
-        status = check_argument(rt, file, &options, &mut totals)?.max(status);
+        status = check_argument(rt, file, options, totals)?.max(status);
     }
     Ok(totals.end(rt).max(status))
 }

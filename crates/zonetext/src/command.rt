@@ -5,7 +5,7 @@ use crate::expand::{EXPAND, MAX_GENERATE, run_expand};
 use crate::record_args::{CANON, DIFF, DIGEST, RECORDS};
 use crate::serial_args::SERIAL;
 use crate::{check, codes, cut_args, record_args, serial_args};
-use clap::{ArgMatches, Command, Error};
+use clap::{ArgAction, ArgMatches, Command, Error};
 use std::alloc::{AllocError, Global};
 use std::io;
 use zonetext_edit::format;
@@ -16,16 +16,19 @@ use zonetext_lib::layout::Gap;
 use zonetext_lib::tokens::Form;
 use zonetext_lib::writer::Output;
 use zonetext_zones::arguments::{
-    ArgRow, BASE, CommandTable, FLAG, MAX_ENTRY, OVER_FILES, REPEATED, VALUED, command_of,
+    ARGUMENT, ArgRow, BASE, CommandTable, FLAG, MAX_ENTRY, OVER_FILES, QUIET, REPEATED, VALUED,
+    command_of,
 };
 use zonetext_zones::options::USAGE;
 use zonetext_zones::zone_names::{ZONE, ZONE_FROM_NAME};
 
 /// The options of `check` about records, which conflict with `--text`.
-const OF_RECORDS: [&str; 14] = [
+const OF_RECORDS: [&str; 16] = [
     "zone",
     "zone-from-name",
     "conf",
+    "root",
+    "skip-type",
     "zones",
     "name-form",
     "recursive",
@@ -37,6 +40,19 @@ const OF_RECORDS: [&str; 14] = [
     "max-entry",
     "max-generate",
     "verbose",
+];
+
+/// The argument and the option of `check`, which also checks folders.
+const OVER_FOLDERS: [ArgRow; 2] = [
+    ArgRow {
+        name: "FILE",
+        value_name: &["FILE|FOLDER"],
+        help: "a zone file, a folder of zone files, or - for standard input",
+        is_required: false,
+        action: ArgAction::Append,
+        ..ARGUMENT
+    },
+    QUIET,
 ];
 
 /// The options of `check` about zones and files.
@@ -55,14 +71,16 @@ const OF_CHECK: [ArgRow; 6] = [
     ArgRow {
         name: "include",
         value_name: &["DIR"],
-        help: "also allow included files in this folder, besides the first file's",
+        help: "also allow included files in this folder",
+        heading: "Zone",
         ..REPEATED
     },
     BASE,
     ArgRow {
         name: "stdin-name",
         value_name: &["NAME"],
-        help: "name of standard input, in messages and for files that it includes",
+        help: "name of standard input, in messages and for\nthe files that it includes",
+        heading: "Zone",
         ..VALUED
     },
 ];
@@ -71,77 +89,103 @@ const OF_CHECK: [ArgRow; 6] = [
 const SIGNATURES: [ArgRow; 3] = [
     ArgRow {
         name: "dnssec",
-        help: "also check the rules of a signed zone: signatures, NSEC and NSEC3",
+        help: "also check signatures, NSEC and NSEC3",
+        heading: "Signed zones",
         ..FLAG
     },
     ArgRow {
         name: "within",
         value_name: &["TIME"],
-        help: "also report signatures that expire within this time, as 7d",
+        help: "also report signatures that expire within a time, as 7d",
+        heading: "Signed zones",
         needs: &["dnssec"],
         ..VALUED
     },
     ArgRow {
         name: "now",
         value_name: &["TIME"],
-        help: "check at this time, not now, as 20260131235959 or seconds since 1970",
+        help: "check at this time, as 20260131235959 or in seconds\nsince 1970",
+        heading: "Signed zones",
         needs: &["dnssec"],
         ..VALUED
     },
 ];
 
 /// The options that name many zones.
-const ZONES: [ArgRow; 4] = [
+const ZONES: [ArgRow; 5] = [
     ArgRow {
         name: "conf",
         value_name: &["FILE"],
         help: "also check the zones of a named.conf or nsd.conf",
+        heading: "Many zones",
         conflicts: &["zone"],
+        ..VALUED
+    },
+    ArgRow {
+        name: "root",
+        value_name: &["DIR"],
+        help: "with --conf: absolute paths are below this folder",
+        heading: "Many zones",
+        needs: &["conf"],
         ..VALUED
     },
     ArgRow {
         name: "zones",
         value_name: &["LIST"],
-        help: "also check the zones of a list, a zone and its file a line; - is standard input",
+        help: "also check the zones of a list: a zone and its file\na line; - is standard input",
+        heading: "Many zones",
         conflicts: &["zone"],
         ..VALUED
     },
     ArgRow {
         name: "name-form",
         value_name: &["FORM"],
-        help: "names of zone files in folders, with % for the zone (default *.zone, *.db and db.*)",
+        help: "names of zone files in folders, with % for the zone\n(default *.zone, *.db and db.*)",
+        heading: "Many zones",
         ..REPEATED
     },
     ArgRow {
         name: "recursive",
         help: "also check the zone files in folders of a folder",
+        heading: "Many zones",
         ..FLAG
     },
 ];
 
 /// The options that select findings.
-const FINDINGS: [ArgRow; 7] = [
+const FINDINGS: [ArgRow; 8] = [
     ArgRow {
         name: "deny",
         value_name: &["CODE"],
         help: "report findings with this code as errors",
+        heading: "Findings",
         ..REPEATED
     },
     ArgRow {
         name: "allow",
         value_name: &["CODE"],
         help: "omit findings with this code",
+        heading: "Findings",
+        ..REPEATED
+    },
+    ArgRow {
+        name: "skip-type",
+        value_name: &["TYPE"],
+        help: "skip entries of this type, as ALIAS",
+        heading: "Findings",
         ..REPEATED
     },
     ArgRow {
         name: "strict",
         help: "report every finding as an error",
+        heading: "Findings",
         ..FLAG
     },
     ArgRow {
         name: "max-ttl",
         value_name: &["TIME"],
         help: "maximum TTL, as 1d",
+        heading: "Limits",
         ..VALUED
     },
     MAX_ENTRY,
@@ -150,6 +194,38 @@ const FINDINGS: [ArgRow; 7] = [
         name: "class",
         value_name: &["CLASS"],
         help: "class of the zone (default IN)",
+        heading: "Zone",
+        ..VALUED
+    },
+];
+
+/// The options that show fewer findings.
+const FEWER: [ArgRow; 4] = [
+    ArgRow {
+        name: "errors-only",
+        help: "print errors alone; warnings are counted",
+        heading: "Findings",
+        ..FLAG
+    },
+    ArgRow {
+        name: "summary",
+        help: "print the number of findings of each code instead",
+        heading: "Findings",
+        conflicts: &["max", "excerpt"],
+        ..FLAG
+    },
+    ArgRow {
+        name: "baseline",
+        value_name: &["FILE"],
+        help: "leave out the findings that this file knows",
+        heading: "Findings",
+        ..VALUED
+    },
+    ArgRow {
+        name: "write-baseline",
+        value_name: &["FILE"],
+        help: "write the findings to this file, for --baseline",
+        heading: "Findings",
         ..VALUED
     },
 ];
@@ -159,7 +235,8 @@ const FORMS: [ArgRow; 6] = [
     ArgRow {
         name: "format",
         value_name: &["FORMAT"],
-        help: "print findings for other programs, on standard output (default text)",
+        help: "print findings on standard output, for programs:\ntext, json, github, sarif or checkstyle\n(default text, on standard error)",
+        heading: "Output",
         possible_values: &FORMATS,
         conflicts: &["json"],
         ..VALUED
@@ -167,30 +244,35 @@ const FORMS: [ArgRow; 6] = [
     ArgRow {
         name: "json",
         help: "the same as --format json",
+        heading: "Output",
         ..FLAG
     },
     ArgRow {
         name: "excerpt",
-        help: "print the line of each finding, with a caret, also without a terminal",
+        help: "print the line of each finding also without a terminal",
+        heading: "Output",
         ..FLAG
     },
     ArgRow {
         name: "max",
         value_name: &["N"],
-        help: "print at most N findings, errors first, 0 for all (default 20, with --format all)",
+        help: "print at most N findings, errors first; 0 for all\n(default 20, or all with --format)",
+        heading: "Output",
         ..VALUED
     },
     ArgRow {
         name: "color",
         value_name: &["WHEN"],
-        help: "when to print findings in colour, with their lines",
+        help: "when to print in colour: auto, always or never",
+        heading: "Output",
         possible_values: &["auto", "always", "never"],
         ..VALUED
     },
     ArgRow {
         name: "verbose",
         short: Some('v'),
-        help: "print the zone, its serial and its number of records",
+        help: "print the zone, its serial and number of records",
+        heading: "Output",
         ..FLAG
     },
 ];
@@ -199,13 +281,14 @@ const FORMS: [ArgRow; 6] = [
 const CHECK: CommandTable = CommandTable {
     name: "check",
     about: "Report the errors in zone files",
-    example: "Example: zonetext check --zone example.org. example.org.zone",
+    example: "Status: 0 no error; 1 an error; 2 wrong arguments or configuration;\n3 a file can't be read or written\n\nExample: zonetext check --zone example.org. example.org.zone",
     groups: &[
-        &OVER_FILES,
+        &OVER_FOLDERS,
         &OF_CHECK,
         &SIGNATURES,
         &ZONES,
         &FINDINGS,
+        &FEWER,
         &FORMS,
     ],
 };
@@ -256,7 +339,7 @@ const OF_FORMAT: [ArgRow; 4] = [
 const FORMAT: CommandTable = CommandTable {
     name: "fmt",
     about: "Format zone files, and keep their comments",
-    example: "Example: zonetext fmt --diff example.org.zone",
+    example: "Status: 0 done, or nothing would change; 1 rejected, or a file would change;\n2 wrong arguments; 3 a file can't be read or written\n\nExample: zonetext fmt --diff example.org.zone",
     groups: &[&OVER_FILES, &OF_FORMAT],
 };
 

@@ -45,7 +45,7 @@ pub const CUT: CommandTable = CommandTable {
         },
         ZONE_FROM_NAME,
         ArgRow {
-            help: "class of records without one (default IN), which readers of the parts need too",
+            help: "class of records without one (default IN), which\nreaders of the parts need too",
             ..CLASS
         },
         MAX_ENTRY,

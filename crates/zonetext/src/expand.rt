@@ -25,7 +25,8 @@ const BLOCK: usize = 64 * 1024;
 pub const MAX_GENERATE: ArgRow = ArgRow {
     name: "max-generate",
     value_name: &["N"],
-    help: "maximum number of entries of a $GENERATE (default 1048576)",
+    help: "maximum entries of a $GENERATE (default 1048576)",
+    heading: "Limits",
     ..VALUED
 };
 

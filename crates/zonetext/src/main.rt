@@ -1,6 +1,7 @@
 //! The program `zonetext`: it checks, formats, lists, lays out, reads, compares, digests and cuts zone files.
 #![tactic(auto)]
 
+mod baseline_file;
 mod check;
 mod codes;
 mod command;

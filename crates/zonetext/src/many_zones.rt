@@ -1,7 +1,7 @@
 //! The command `check` over many zones: those of folders, of a configuration or of a list.
 use crate::check::{Options, check_argument};
 use clap::ArgMatches;
-use server_config::{OmittedCounts, is_name_form, is_nsd_config};
+use server_config::{is_name_form, is_nsd_config};
 use std::alloc::{AllocError, Global};
 use std::fs::metadata;
 use std::io;
@@ -15,7 +15,7 @@ use zonetext_zones::nsd_zones::add_nsd;
 use zonetext_zones::options::{USAGE, Usage};
 use zonetext_zones::zone_folders::{FORMS, FolderOptions, add_folder};
 use zonetext_zones::zone_names::Zone;
-use zonetext_zones::zone_sources::{SourceError, Sources, ZoneSource, text_of_file};
+use zonetext_zones::zone_sources::{SourceError, Sources, ZoneSource, refuse_knot, text_of_file};
 
 /// Returns whether a path is that of a folder. `-` is standard input.
 fn is_folder(rt: &HostRuntime, path: &str) -> bool {
@@ -59,12 +59,18 @@ fn forms_of<'o>(inner: &'o ArgMatches) -> Result<&'o [&'o str], Usage<'o>> {
 }
 
 /// Adds the zones of a configuration.
-fn add_configured(rt: &HostRuntime, file: &str, sources: &mut Sources) -> Result<(), SourceError> {
+fn add_configured(
+    rt: &HostRuntime,
+    file: &str,
+    root: Option<&str>,
+    sources: &mut Sources,
+) -> Result<(), SourceError> {
     let text = text_of_file(rt, file)?;
+    refuse_knot(rt.alloc(), file, text.as_slice())?;
     if is_nsd_config(text.as_slice()) {
-        add_nsd(rt, file, text, sources)
+        add_nsd(rt, file, text, root, sources)
     } else {
-        add_named(rt, file, text, sources)
+        add_named(rt, file, text, root, sources)
     }
 }
 
@@ -106,7 +112,7 @@ fn sources_of(
 ) -> Result<Sources, SourceError> {
     let mut sources = Sources::new(rt.alloc());
     if let Some(file) = inner.get_str("conf") {
-        add_configured(rt, file, &mut sources)?;
+        add_configured(rt, file, inner.get_str("root"), &mut sources)?;
     }
     if let Some(file) = inner.get_str("zones") {
         add_listed(rt, file, &mut sources)?;
@@ -169,7 +175,8 @@ pub fn begin_summary(
     form: Form,
 ) -> Result<(), RunError> {
     let tally = &reporter.tally;
-    let is_silent = matches!(form, Form::Machine(_)) && tally.hidden() == 0;
+    let is_machine = matches!(form, Form::Machine(_)) && reporter.hidden() == 0;
+    let is_silent = is_machine || reporter.ledger.summary.is_some();
     if is_silent || (tally.errors == 0 && tally.warnings == 0) {
         return Ok(());
     }
@@ -194,10 +201,22 @@ fn push_omitted(out: &mut String, number: usize, reason: &str) -> Result<(), All
     out.push_str(text.as_str())
 }
 
+/// Appends the number of zones whose type is not known, with the first such type, unless it is 0.
+fn push_unknown(out: &mut String, number: usize, sources: &Sources) -> Result<(), AllocError> {
+    let Some(first) = &sources.unknown_type else {
+        return Ok(());
+    };
+    let first = first.as_str();
+    let reason = format!(in *out.allocator(); "of unknown type {first}")?;
+    push_omitted(out, number, reason.as_str())
+}
+
 /// Returns the numbers of zones that are left out, and why. It is empty if there are none.
-fn omitted_text(alloc: Global, counts: OmittedCounts) -> Result<String, AllocError> {
+fn omitted_text(alloc: Global, sources: &Sources) -> Result<String, AllocError> {
+    let counts = sources.omitted;
     let mut out = String::new(alloc);
     push_omitted(&mut out, counts.other_type, "of another type than primary")?;
+    push_unknown(&mut out, counts.unknown_type, sources)?;
     push_omitted(&mut out, counts.in_view, "of another view")?;
     push_omitted(&mut out, counts.database, "in a database")?;
     push_omitted(&mut out, counts.format, "not in text format")?;
@@ -223,6 +242,15 @@ fn report_omitted(rt: &HostRuntime, sources: &Sources, is_strict: bool) -> io::R
     Ok(status)
 }
 
+/// Reports the number of zones with a journal, if there are any.
+fn report_journals(rt: &HostRuntime, totals: &Totals) -> io::Result<()> {
+    match totals.journals {
+        0 => Ok(()),
+        1 => eprintln!(rt; "1 zone has a journal"),
+        count => eprintln!(rt; "{count} zones have a journal"),
+    }
+}
+
 /// Reports the number of zones and findings, and the zones that are left out.
 fn report_zones(
     rt: &HostRuntime,
@@ -230,7 +258,7 @@ fn report_zones(
     totals: &Totals,
     failed: usize,
 ) -> io::Result<()> {
-    let omitted = omitted_text(rt.alloc(), sources.omitted)?;
+    let omitted = omitted_text(rt.alloc(), sources)?;
     if !omitted.is_empty() {
         let omitted = omitted.as_str();
         eprintln!(rt; "left out: {omitted}")?;
@@ -270,38 +298,51 @@ fn check_source(
         folders: options.folders,
         base: options.base.or(base),
         stdin_name: options.stdin_name,
+        root: options.root,
+        skipped: options.skipped,
         zone,
         times: options.times,
         is_verbose: options.is_verbose,
         is_text: options.is_text,
         is_quiet: options.is_quiet,
         is_many: true,
+        omits_warnings: options.omits_warnings,
     };
     check_argument(rt, source.file.as_str(), &own, totals)
 }
 
 /// Checks zones, and returns the greatest status.
-fn check_sources(rt: &HostRuntime, sources: &Sources, options: &Options) -> io::Result<u8> {
-    let mut totals = Totals::new(options.form);
+fn check_sources(
+    rt: &HostRuntime,
+    sources: &Sources,
+    options: &Options,
+    totals: &mut Totals,
+) -> io::Result<u8> {
     totals.is_of_zones = true;
     let mut status = totals.start(rt);
     let mut failed: usize = 0;
     for source in &sources.zones {
-        let checked = check_source(rt, source, options, &mut totals)?;
+        let checked = check_source(rt, source, options, totals)?;
         if checked != 0 {
             failed = failed.saturating_add(1);
         }
         status = checked.max(status);
     }
     status = totals.end(rt).max(status);
+    report_journals(rt, totals)?;
     status = report_omitted(rt, sources, options.is_strict)?.max(status);
-    report_zones(rt, sources, &totals, failed)?;
+    report_zones(rt, sources, totals, failed)?;
     Ok(status)
 }
 
 /// Checks the zones that the arguments name, and returns the greatest status.
 #[inline(never)]
-pub fn run(rt: &HostRuntime, inner: &ArgMatches, options: &Options) -> io::Result<u8> {
+pub fn run(
+    rt: &HostRuntime,
+    inner: &ArgMatches,
+    options: &Options,
+    totals: &mut Totals,
+) -> io::Result<u8> {
     let forms = match forms_of(inner) {
         Ok(forms) => forms,
         Err(usage) => return zonetext_zones::options::status_of(rt, Err(usage)),
@@ -318,7 +359,7 @@ pub fn run(rt: &HostRuntime, inner: &ArgMatches, options: &Options) -> io::Resul
         is_recursive: inner.get_flag("recursive"),
     };
     match sources_of(rt, inner, folders) {
-        Ok(sources) => check_sources(rt, &sources, options),
+        Ok(sources) => check_sources(rt, &sources, options, totals),
         Err(error) => Ok(error.exit_status(rt)),
     }
 }

@@ -8,7 +8,9 @@ use zone_contents::HashAlgorithm;
 use zone_set::Selection;
 use zonetext_edit::{digest, digest_writing};
 use zonetext_files::generated::{GenerateMode, GenerateOptions};
+use zonetext_files::journals::report_journals;
 use zonetext_records::json_records::JSON;
+use zonetext_records::removals::RemovalLimit;
 use zonetext_records::visit::{MOST_ERRORS, Reading};
 use zonetext_records::{canon, changes, json_records, records, update};
 use zonetext_zones::arguments::{
@@ -24,6 +26,7 @@ pub const CLASS: ArgRow = ArgRow {
     name: "class",
     value_name: &["CLASS"],
     help: "class of records without one (default IN)",
+    heading: "Zone",
     ..VALUED
 };
 
@@ -39,7 +42,8 @@ pub const READING: [ArgRow; 7] = [
     ArgRow {
         name: "include",
         value_name: &["DIR"],
-        help: "also allow included files in this folder, besides the file's own",
+        help: "also allow included files in this folder",
+        heading: "Zone",
         ..REPEATED
     },
     BASE,
@@ -51,12 +55,14 @@ pub const READING: [ArgRow; 7] = [
 const SELECTION: [ArgRow; 2] = [
     ArgRow {
         name: "no-dnssec",
-        help: "omit the records of DNSSEC: RRSIG, NSEC, DNSKEY, NSEC3, NSEC3PARAM",
+        help: "omit RRSIG, NSEC, DNSKEY, NSEC3 and NSEC3PARAM",
+        heading: "Records",
         ..FLAG
     },
     ArgRow {
         name: "no-soa",
         help: "omit SOA records",
+        heading: "Records",
         ..FLAG
     },
 ];
@@ -92,7 +98,7 @@ const OF_CANON: [ArgRow; 7] = [
     ArgRow {
         name: "memory",
         value_name: &["SIZE"],
-        help: "sort with at most this memory, as 64M, and with files in TMPDIR",
+        help: "sort with at most this memory, as 64M, and with files\nin TMPDIR",
         conflicts: &["keep-order"],
         ..VALUED
     },
@@ -129,7 +135,7 @@ pub const CANON: CommandTable = CommandTable {
 };
 
 /// The options of `diff`.
-const OF_DIFF: [ArgRow; 8] = [
+const OF_DIFF: [ArgRow; 9] = [
     ArgRow {
         name: "A",
         help: "the old zone file",
@@ -146,7 +152,7 @@ const OF_DIFF: [ArgRow; 8] = [
     },
     ArgRow {
         name: "entries",
-        help: "compare the entries as text, and report the first difference",
+        help: "compare entries as text, up to the first difference",
         ..FLAG
     },
     ArgRow {
@@ -164,6 +170,13 @@ const OF_DIFF: [ArgRow; 8] = [
         name: "need-serial",
         help: "status 4 if records differ and the serial did not rise",
         ..FLAG
+    },
+    ArgRow {
+        name: "max-removed",
+        value_name: &["N"],
+        help: "print nothing, with status 4, if more than N records,\nor N% of them, are removed",
+        conflicts: &["entries"],
+        ..VALUED
     },
     QUIET,
 ];
@@ -194,7 +207,7 @@ const UPDATE: [ArgRow; 3] = [
 pub const DIFF: CommandTable = CommandTable {
     name: "diff",
     about: "Print the differences between the records of two zone files",
-    example: "Example: zonetext diff --zone example.org. old.zone new.zone",
+    example: "Status: 0 the same; 1 differences; 2 wrong arguments; 3 a file can't be read;\n4 the serial did not rise, too much is removed, or no update is possible\n\nExample: zonetext diff --zone example.org. old.zone new.zone",
     groups: &[&OF_DIFF, &READING, &SELECTION, &UPDATE],
 };
 
@@ -214,14 +227,14 @@ const OF_DIGEST: [ArgRow; 8] = [
     ArgRow {
         name: "hash",
         value_name: &["HASH"],
-        help: "hash algorithm of a digest that is added",
+        help: "hash of a digest that is added: sha384 or sha512",
         possible_values: &["sha384", "sha512"],
         needs: &["write"],
         ..VALUED
     },
     ArgRow {
         name: "force",
-        help: "also write to a zone that a server updates (with a .jnl file)",
+        help: "also write to a zone with a journal (a .jnl file)",
         needs: &["write"],
         ..FLAG
     },
@@ -238,7 +251,7 @@ const OF_DIGEST: [ArgRow; 8] = [
     ArgRow {
         name: "verbose",
         short: Some('v'),
-        help: "also list digests with an unknown scheme or hash algorithm",
+        help: "also list digests of unknown schemes and hashes",
         ..FLAG
     },
     QUIET,
@@ -374,6 +387,21 @@ fn write_canonical<'o>(
     }
 }
 
+/// Parses the number of records that may be removed, if it is limited.
+fn most_removed_of<'o>(inner: &'o ArgMatches) -> Result<Option<RemovalLimit>, Usage<'o>> {
+    let Some(value) = inner.get_str("max-removed") else {
+        return Ok(None);
+    };
+    match RemovalLimit::from_text(value) {
+        Some(limit) => Ok(Some(limit)),
+        None => Err(Usage::Value {
+            option: "--max-removed",
+            value,
+            wants: "a number of records, or a share up to 100%",
+        }),
+    }
+}
+
 /// Compares two files by their records.
 fn compare<'o>(rt: &HostRuntime, inner: &'o ArgMatches) -> Result<u8, Usage<'o>> {
     let selection = Selection {
@@ -386,6 +414,7 @@ fn compare<'o>(rt: &HostRuntime, inner: &'o ArgMatches) -> Result<u8, Usage<'o>>
         is_json: inner.get_flag("json"),
         most: number_of(inner.get_str("max-changes"), "--max-changes")?,
         needs_serial: inner.get_flag("need-serial"),
+        most_removed: most_removed_of(inner)?,
     };
     let first = inner.get_str("A").unwrap_or("-");
     let second = inner.get_str("B").unwrap_or("-");
@@ -402,6 +431,7 @@ fn write_update<'o>(rt: &HostRuntime, inner: &'o ArgMatches) -> Result<u8, Usage
         has_soa: !inner.get_flag("no-soa"),
         has_keys: inner.get_flag("update-keys"),
         has_signing: !inner.get_flag("no-dnssec"),
+        most_removed: most_removed_of(inner)?,
     };
     let first = inner.get_str("A").unwrap_or("-");
     let second = inner.get_str("B").unwrap_or("-");
@@ -441,6 +471,11 @@ pub fn run_canon<'o>(rt: &HostRuntime, inner: &'o ArgMatches, files: &[&'o str])
 
 /// Runs the command `diff` over records, and returns the status.
 pub fn run_diff(rt: &HostRuntime, inner: &ArgMatches) -> io::Result<u8> {
+    let files = [
+        inner.get_str("A").unwrap_or("-"),
+        inner.get_str("B").unwrap_or("-"),
+    ];
+    report_journals(rt, &files)?;
     if inner.get_flag("nsupdate") {
         return status_of(rt, write_update(rt, inner));
     }

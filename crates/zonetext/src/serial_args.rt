@@ -13,7 +13,7 @@ use zonetext_zones::zone_names::Zone;
 
 /// The options of the command, without those of reading. At most one of those that select the next
 /// serial is set.
-const OF_SERIAL: [ArgRow; 8] = [
+const OF_SERIAL: [ArgRow; 9] = [
     JSON,
     ArgRow {
         name: "write",
@@ -23,7 +23,7 @@ const OF_SERIAL: [ArgRow; 8] = [
     },
     ArgRow {
         name: "date",
-        help: "today's date and 01, as 2026112601 (default if the serial is a date)",
+        help: "today's date and 01, as 2026112601\n(default if the serial is a date)",
         needs: &["write"],
         conflicts: &["unix", "increment", "set"],
         ..FLAG
@@ -50,15 +50,22 @@ const OF_SERIAL: [ArgRow; 8] = [
         ..VALUED
     },
     ArgRow {
+        name: "if-changed",
+        value_name: &["OLD"],
+        help: "only if other records than the SOA differ from this\nfile's",
+        needs: &["write"],
+        ..VALUED
+    },
+    ArgRow {
         name: "now",
         value_name: &["TIME"],
-        help: "time for the date, not now, as 20260131235959 or seconds since 1970",
+        help: "time for the date, as 20260131235959 or in seconds\nsince 1970",
         needs: &["write"],
         ..VALUED
     },
     ArgRow {
         name: "force",
-        help: "also write to a zone that a server updates (with a .jnl file)",
+        help: "also write to a zone with a journal (a .jnl file)",
         needs: &["write"],
         ..FLAG
     },
@@ -95,7 +102,7 @@ fn run_file<'o>(
     rt: &HostRuntime,
     inner: &'o ArgMatches,
     file: &str,
-    work: Option<SerialOptions>,
+    work: Option<SerialOptions<'_>>,
 ) -> Result<u8, Usage<'o>> {
     let zone = Zone::asked(inner)?;
     let reading = match reading_with(inner, zone, true) {
@@ -117,6 +124,7 @@ fn run_files<'o>(rt: &HostRuntime, inner: &'o ArgMatches, files: &[&str]) -> Res
     let work = if inner.get_flag("write") {
         Some(SerialOptions {
             choice: choice_of(rt, inner)?,
+            old: inner.get_str("if-changed"),
             ignores_journal: inner.get_flag("force"),
             is_json: inner.get_flag("json"),
         })
@@ -134,6 +142,10 @@ fn run_files<'o>(rt: &HostRuntime, inner: &'o ArgMatches, files: &[&str]) -> Res
 pub fn run_serial(rt: &HostRuntime, inner: &ArgMatches, files: &[&str]) -> io::Result<u8> {
     if inner.get_flag("write") && files.contains(&"-") {
         eprintln!(rt; "zonetext: serial --write wants files: standard input can't be replaced")?;
+        return Ok(USAGE);
+    }
+    if inner.get_str("if-changed").is_some() && files.len() != 1 {
+        eprintln!(rt; "zonetext: serial --if-changed wants one file")?;
         return Ok(USAGE);
     }
     status_of(rt, run_files(rt, inner, files))

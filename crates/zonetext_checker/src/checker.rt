@@ -4,15 +4,15 @@ mod zone_checks;
 
 use crate::finding_reports::Findings;
 use crate::held_zone::{HeldZone, RecordLocation, SortedZone};
-use crate::lone_rules::breaks_none;
-use crate::refusals::refused_type;
+use crate::lone_rules::{begins_local, breaks_none};
+use crate::refusals::{ANY_TYPE, begins_with_marker, is_like_ttl, is_of_type, refused_type};
 use crate::scan::{may_begin_comment, needs_lint};
 use dns_lexer::entry_tokens::EntryToken;
 use dns_wire::Name;
 use finding_codes::code::{Code, Scope};
 use rdata_fields::RecordError;
 use rdata_values::{Class, RecordType};
-use std::alloc::Global;
+use std::alloc::{AllocError, Global};
 use zone_check::codes::code_of_entry;
 use zone_check::entry::{EntryContext, EntryKind, ReadEntry};
 use zone_check::entry_findings::find_in_entry;
@@ -26,16 +26,17 @@ use zone_format::place::LocatedOffset;
 use zone_reader::{NameBuffer, ParsedEntry, directive_word};
 use zone_stream::BlockRefusal;
 use zonetext_files::generated::RejectedDirective;
+use zonetext_files::include_error::IncludeError;
 use zonetext_files::open_file::first_place;
 use zonetext_files::shown::quoted;
 use zonetext_files::stop::RunError;
-use zonetext_files::zone_files::{Entry, IncludeError, Visit};
+use zonetext_files::zone_files::{Entry, Visit};
 use zonetext_findings::entry_cache::EntryCache;
 use zonetext_findings::exceptions::{may_except, stated_of};
 use zonetext_findings::generate_findings::refusal_text;
 use zonetext_findings::locations::{
-    beginning, begins_blank, line_spot, long_at, number_of, position_at, target_position, token_at,
-    tokens_of,
+    beginning, begins_blank, first_tokens, line_spot, long_at, number_of, position_at,
+    target_position, token_at, tokens_of,
 };
 use zonetext_findings::octet_texts::{is_of_file, octet_text};
 use zonetext_findings::reporter::{FindingText, Reporter};
@@ -91,6 +92,10 @@ pub struct Checker<'a> {
     pub has_reported_origin: bool,
     /// Whether it was reported that the last owner was rejected.
     has_reported_owner: bool,
+    /// Whether a `$TTL`, or a directive like it, was rejected.
+    lacks_ttl: bool,
+    /// The types whose entries are skipped.
+    pub skipped: &'a [String],
     /// Whether a file was skipped because it is UTF-16.
     is_cut: bool,
     /// Whether records are unread: a file is not included, an origin is rejected, or an entry is
@@ -196,6 +201,8 @@ impl<'a> Checker<'a> {
             crlf_files: Vec::new(alloc),
             has_reported_origin: false,
             has_reported_owner: false,
+            lacks_ttl: false,
+            skipped: &[],
             is_cut: false,
             has_gap: false,
         }
@@ -224,13 +231,52 @@ impl<'a> Checker<'a> {
         let tokens = tokens_of(self.alloc, entry)?;
         let is_directive = directive_of(tokens.as_slice(), begins_blank(entry)).is_some();
         let code = code_of_entry(is_directive, error);
-        self.has_gap = self.has_gap || code == Code::Directive;
+        let is_ttl = is_directive && is_like_ttl(self.alloc, tokens.as_slice())?;
+        self.lacks_ttl = self.lacks_ttl || is_ttl;
+        self.has_gap = self.has_gap || (code == Code::Directive && !is_ttl);
         self.has_reported_owner = code == Code::NoOwner;
         if is_directive {
             return Ok(());
         }
-        let rtype = refused_type(error, tokens.as_slice(), begins_blank(entry));
-        self.hold_refused(entry, rtype)
+        let is_lost = code == Code::NoOwner || code == Code::Owner;
+        self.has_gap = self.has_gap || is_lost || begins_with_marker(tokens.as_slice());
+        match refused_type(error, tokens.as_slice(), begins_blank(entry)) {
+            Some(rtype) => self.hold_refused(entry, Some(rtype)),
+            None => self.hold_any(entry),
+        }
+    }
+
+    /// Stores that the owner of an entry may have any type.
+    fn hold_any(&mut self, entry: &Entry<'_>) -> Result<(), RunError> {
+        for rtype in &ANY_TYPE {
+            self.hold_refused(entry, Some(*rtype))?;
+        }
+        Ok(())
+    }
+
+    /// Returns whether an entry is of a type that is skipped.
+    fn is_skipped(&self, entry: &Entry<'_>) -> Result<bool, AllocError> {
+        if self.skipped.is_empty() {
+            return Ok(false);
+        }
+        let is_record = matches!(
+            entry.read,
+            Ok(ParsedEntry::Record { .. }) | Err(BlockRefusal::Entry(_))
+        );
+        if !is_record {
+            return Ok(false);
+        }
+        let tokens = first_tokens(self.alloc, entry)?;
+        Ok(is_of_type(tokens.as_slice(), begins_blank(entry), self.skipped))
+    }
+
+    /// Processes an entry of a type that is skipped: as a rejected one, without a finding.
+    fn skip(&mut self, entry: &Entry<'_>) -> Result<(), RunError> {
+        match entry.read {
+            Err(BlockRefusal::Entry(error)) => self.hold_rejection(entry, error),
+            Ok(ParsedEntry::Record { rtype, .. }) => self.hold_refused(entry, Some(*rtype)),
+            _ => Ok(()),
+        }
     }
 
     /// Returns whether an entry is blank, or a record other than an SOA that has no findings.
@@ -419,6 +465,9 @@ impl<'a> Checker<'a> {
 
     /// Processes an entry, with its exceptions in effect.
     fn process_entry(&mut self, entry: &Entry<'_>, scan: OctetScan) -> Result<(), RunError> {
+        if self.is_skipped(entry)? {
+            return self.skip(entry);
+        }
         if !self.shows_nothing(entry, scan) {
             return self.check_entry(entry, scan);
         }
@@ -552,11 +601,21 @@ impl<'a> Checker<'a> {
     ) -> Result<(), RunError> {
         let mut cache = EntryCache::new(self.alloc, entry);
         for finding in found {
-            if !is_of_octets(finding) {
+            if !is_of_octets(finding) && !self.is_passed(entry, finding) {
                 self.report_finding(entry, &mut cache, finding)?;
             }
         }
         Ok(())
+    }
+
+    /// Returns whether a finding is passed over: about the timers of a zone that no server asks for, or
+    /// about a TTL after a rejected `$TTL`.
+    fn is_passed(&self, entry: &Entry<'_>, finding: &EntryFinding) -> bool {
+        match finding.code {
+            Code::SoaTimers => begins_local(entry.data),
+            Code::NoTtl | Code::SoaMinimumTtl | Code::TtlDiffers => self.lacks_ttl,
+            _ => false,
+        }
     }
 
     /// Reports a finding about an entry that is not about its octets.
@@ -607,9 +666,23 @@ impl<'a> Checker<'a> {
                 self.hold_rejection(entry, error)?;
                 self.report_read(entry, found)
             }
+            Err(BlockRefusal::Text(_)) => {
+                self.has_gap = self.has_gap || is_unclosed(found);
+                self.report_read(entry, found)
+            }
             _ => self.report_read(entry, found),
         }
     }
+}
+
+/// Returns whether a finding is that of a quote or a parenthesis that is not closed.
+fn is_unclosed(found: &[EntryFinding]) -> bool {
+    for finding in found {
+        if matches!(finding.code, Code::OpenQuote | Code::OpenParenthesis) {
+            return true;
+        }
+    }
+    false
 }
 
 impl<'a> Visit for Checker<'a> {
@@ -633,7 +706,7 @@ impl<'a> Visit for Checker<'a> {
 
     fn is_quiet(&self, entry: &Entry<'_>) -> bool {
         // A record is stored with its position.
-        if self.held.is_some() {
+        if self.held.is_some() || !self.skipped.is_empty() {
             return false;
         }
         let scan = scan_octets(entry.octets);

@@ -6,6 +6,7 @@ mod entry_texts;
 mod finding_reports;
 mod held_zone;
 mod hidden_zone;
+mod length_texts;
 mod lone_rules;
 mod refusals;
 mod refused_sets;

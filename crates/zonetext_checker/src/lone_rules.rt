@@ -29,3 +29,23 @@ pub fn breaks_none(
     };
     Ok(broken_rules(&record, Some(written)).is_empty())
 }
+
+/// Returns whether a name in wire format, with which octets begin, is at or below `localhost.` or
+/// `invalid.`, for which there are no servers (RFC 6761).
+pub fn begins_local(octets: &[u8]) -> bool {
+    let mut rest = octets;
+    let mut last: &[u8] = &[];
+    for _ in 0..octets.len() {
+        let Some((length, labels)) = rest.split_first() else {
+            return false;
+        };
+        if *length == 0 {
+            break;
+        }
+        let count = usize::from(*length).min(labels.len());
+        let (label, others) = labels.split_at(count);
+        last = label;
+        rest = others;
+    }
+    last.eq_ignore_ascii_case(b"localhost") || last.eq_ignore_ascii_case(b"invalid")
+}

@@ -9,6 +9,7 @@ use rdata_values::RecordType;
 use std::alloc::{AllocError, Global};
 use zone_rules::hosts::dname_over_host;
 use zone_rules::names::{is_name_below, view};
+use zone_rules::services::is_alias_mode;
 use zone_rules::zone_records::OwnerBuffer;
 use zone_rules::{Finding, SortedSets, ZoneRecords, find_broken};
 use zonetext_findings::subjects::Text;
@@ -50,11 +51,11 @@ pub fn other_soa<Origin: AsOctets>(
     Ok(None)
 }
 
-/// Returns the target of a record: the host of NS, MX and SRV, and that of CNAME.
+/// Returns the target of a record: the host of NS, MX and SRV, and that of CNAME, SVCB and HTTPS.
 fn target_of<'r>(record: &'r HeldRecord<'_>) -> Option<Name<&'r [u8]>> {
     let place = match record.data.rtype() {
         RecordType::NS | RecordType::CNAME => 0,
-        RecordType::MX => 1,
+        RecordType::MX | RecordType::SVCB | RecordType::HTTPS => 1,
         RecordType::SRV => 3,
         _ => return None,
     };
@@ -223,10 +224,10 @@ fn missing_target<Origin: AsOctets>(
     let rtype = record.data.rtype();
     let name = DisplayWithDot::new(&target);
     let message = match code {
-        Code::TargetMissing => format!(in alloc;
+        Code::TargetMissing if !is_alias_mode(record) => format!(in alloc;
             "{rtype} target {name} has no address in the zone"
         )?,
-        Code::CnameTargetMissing => {
+        Code::TargetMissing | Code::CnameTargetMissing => {
             format!(in alloc; "{rtype} target {name} has no records in the zone")?
         }
         Code::NsAddress => format!(in alloc; "name server {name} has no address in the zone")?,

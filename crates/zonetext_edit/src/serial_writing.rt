@@ -6,12 +6,17 @@ use crate::serial::{
 };
 use std::alloc::Global;
 use std::io;
+use zone_contents::changes_between_zones;
 use zone_edit::{Edit, SoaError, push_serial_edits};
 use zone_reader::NameBuffer;
-use zone_serial::{NextSerial, SerialError, SerialMode, farthest_serial, next_serial, usual_mode};
+use zone_serial::{
+    NextSerial, SerialError, SerialMode, farthest_serial, is_after, next_serial, usual_mode,
+};
+use zone_set::Selection;
 use zonetext_files::shown::Shown;
 use zonetext_files::stop::{RunError, exit_status};
 use zonetext_lib::replace::Original;
+use zonetext_records::stored_records::{Kept, StoredRecords, store_records};
 use zonetext_records::visit::Reading;
 
 /// How the new serial is determined.
@@ -25,8 +30,10 @@ pub enum Choice {
 
 /// The options of the command.
 #[derive(Clone, Copy)]
-pub struct SerialOptions {
+pub struct SerialOptions<'o> {
     pub choice: Choice,
+    /// The old file, if the serial is only raised where records differ from it.
+    pub old: Option<&'o str>,
     /// Whether zones with a journal next to them are changed too.
     pub ignores_journal: bool,
     /// Whether the serials are printed as JSON.
@@ -83,13 +90,52 @@ fn edits_of(alloc: Global, found: &ZoneSerial, serial: u32) -> Result<Vec<Edit<G
     Ok(edits)
 }
 
-/// Replaces the serial of a zone in its file.
+/// Returns the serial after which the next one comes: that of a zone in its file, or of the old zone
+/// if that is greater (RFC 1982). Returns `None` if other records than the SOA are the same in an old
+/// file, or if the serial is greater than there.
+fn serial_before(
+    rt: &HostRuntime,
+    old: &str,
+    file: &str,
+    reading: &Reading<'_>,
+    serial: u32,
+) -> Result<Option<u32>, SerialCommandError> {
+    let before = records_of(rt, old, reading)?;
+    let after = records_of(rt, file, reading)?;
+    let changes = changes_between_zones(rt.alloc(), &before.zone, &after.zone)?;
+    if changes.is_empty() {
+        return Ok(None);
+    }
+    match &before.seen {
+        Some(seen) if is_after(seen.serial, serial) => Ok(None),
+        Some(seen) if is_after(serial, seen.serial) => Ok(Some(seen.serial)),
+        _ => Ok(Some(serial)),
+    }
+}
+
+/// Returns the records of a file without its SOA.
+fn records_of(
+    rt: &HostRuntime,
+    file: &str,
+    reading: &Reading<'_>,
+) -> Result<StoredRecords, SerialCommandError> {
+    let selection = Selection {
+        without_soa: true,
+        ..Selection::all()
+    };
+    match store_records(rt, &[file], reading, selection, Kept::nothing()) {
+        Ok(stored) => Ok(stored),
+        Err(status) => Err(SerialCommandError::Reported(status)),
+    }
+}
+
+/// Replaces the serial of a zone in its file. Returns `None` if it need not be raised.
 fn raise(
     rt: &HostRuntime,
     file: &str,
     reading: &Reading<'_>,
-    work: SerialOptions,
-) -> Result<Raised, SerialCommandError> {
+    work: SerialOptions<'_>,
+) -> Result<Option<Raised>, SerialCommandError> {
     let alloc = rt.alloc();
     let original = match Original::find(rt, alloc, file, work.ignores_journal) {
         Ok(original) => original,
@@ -100,8 +146,15 @@ fn raise(
         Some(soa) => soa.serial,
         None => return Err(SerialCommandError::NoSoa),
     };
-    let mode = mode_of(work.choice, old);
-    let new = next_of(old, mode)?;
+    let before = match work.old {
+        Some(old_file) => serial_before(rt, old_file, file, reading, old)?,
+        None => Some(old),
+    };
+    let Some(before) = before else {
+        return Ok(None);
+    };
+    let mode = mode_of(work.choice, before);
+    let new = next_of(before, mode)?;
     let edits = match edits_of(alloc, &found, new.serial) {
         Ok(edits) => edits,
         Err(error) => {
@@ -116,14 +169,14 @@ fn raise(
         has_signature,
         ..
     } = found;
-    Ok(Raised {
+    Ok(Some(Raised {
         zone,
         old,
         new,
         mode,
         has_digest,
         has_signature,
-    })
+    }))
 }
 
 /// Reports what a new serial makes stale.
@@ -233,11 +286,13 @@ fn refuse(rt: &HostRuntime, file: &str, why: SerialCommandError) -> io::Result<u
 }
 
 /// Replaces the serial of the zone in a file, and returns the status. If the file has no SOA, or SOAs
-/// that differ, or if one is in an included file, that is reported, and nothing is written.
+/// that differ, or if one is in an included file, that is reported, and nothing is written. Nor is
+/// anything if an old file is named from which no record but the SOA differs, or whose serial is less.
 #[inline(never)]
-pub fn run(rt: &HostRuntime, file: &str, reading: &Reading<'_>, work: SerialOptions) -> u8 {
+pub fn run(rt: &HostRuntime, file: &str, reading: &Reading<'_>, work: SerialOptions<'_>) -> u8 {
     let answer = match raise(rt, file, reading, work) {
-        Ok(raised) => match report_raised(rt, file, &raised, work.is_json) {
+        Ok(None) => Ok(0),
+        Ok(Some(raised)) => match report_raised(rt, file, &raised, work.is_json) {
             Ok(()) => Ok(0),
             Err(error) => Err(error),
         },

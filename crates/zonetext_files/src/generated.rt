@@ -84,11 +84,15 @@ fn moved_record(entry: ParsedEntry, by: usize) -> Result<ParsedEntry, RunError> 
     match entry {
         ParsedEntry::Record {
             at,
+            data_at,
+            end,
             ttl,
             class,
             rtype,
         } => Ok(ParsedEntry::Record {
             at: at.saturating_add(by),
+            data_at: data_at.saturating_add(by),
+            end: end.saturating_add(by),
             ttl,
             class,
             rtype,

@@ -86,6 +86,36 @@ fn folder_of(path: &str) -> &str {
     }
 }
 
+/// Writes octets to a file that was created, and waits until they reach the disk.
+fn fill(file: File, octets: &[u8]) -> io::Result<()> {
+    let mut file = file;
+    file.write_all(octets)?;
+    file.sync_all()
+}
+
+/// Flushes the directory of a path to disk.
+fn sync_folder(rt: &HostRuntime, path: &str) -> io::Result<()> {
+    let mut options = OpenOptions::new();
+    options.read(true);
+    rt.open_file(&options, folder_of(path))?.sync_all()
+}
+
+/// Writes a file whose name is not in use: first beside it, under a temporary name, which is replaced
+/// once the octets are on the disk. If that fails, the file beside it is removed.
+pub fn write_new(rt: &HostRuntime, path: &str, octets: &[u8]) -> io::Result<()> {
+    let beside = with_suffix(rt.alloc(), path, NEW)?;
+    let file = create(rt, beside.as_str())?;
+    let written = match fill(file, octets) {
+        Ok(()) => set_name(rt, beside.as_str(), path),
+        Err(error) => Err(error),
+    };
+    if let Err(error) = written {
+        let _ = rt.remove_file(beside.as_str());
+        return Err(error);
+    }
+    sync_folder(rt, path)
+}
+
 impl<'p> PartFiles<'p> {
     /// Returns an empty list of files, with at most `count` files.
     pub fn new(rt: &'p HostRuntime, prefix: &'p str, count: usize) -> PartFiles<'p> {
@@ -194,10 +224,7 @@ impl<'p> PartFiles<'p> {
             }
             self.named = self.named.saturating_add(1);
         }
-        let mut options = OpenOptions::new();
-        options.read(true);
-        let folder = self.rt.open_file(&options, folder_of(self.prefix))?;
-        folder.sync_all()?;
+        sync_folder(self.rt, self.prefix)?;
         Ok(())
     }
 

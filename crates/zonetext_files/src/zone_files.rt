@@ -4,8 +4,10 @@ use crate::data_buffer::DataBuffer;
 use crate::generated::{
     GenerateMode, GenerateOptions, Generated, RejectedDirective, read_of, refusal_at,
 };
+use crate::include_error::IncludeError;
 use crate::open_file::{Includer, Input, OpenFile, place_after, place_from};
 use crate::progress::Progress;
+use crate::root_path::rooted;
 use crate::stop::RunError;
 use dns_wire::Name;
 use rdata_fields::RecordRef;
@@ -124,6 +126,8 @@ struct ZoneFiles<'a> {
     /// The directory for relative paths of included files, if it is not that of the file that
     /// includes them.
     base: Option<String>,
+    /// The directory below which absolute paths of included files are, if there is one.
+    root: Option<String>,
     /// The open files, each but the first included by the one before it.
     files: Vec<OpenFile>,
     state: State,
@@ -198,53 +202,6 @@ fn open_first(rt: &HostRuntime, file: &str, name: &str, max_entry: usize) -> io:
     Ok(OpenFile::new(alloc, name, full, 0, input, max_entry))
 }
 
-/// Why a file is not included.
-#[derive(Drop)]
-pub enum IncludeError {
-    Reason(&'static str),
-    /// Too many files were included before it.
-    Full,
-    Io(io::Error),
-}
-
-impl From<io::Error> for IncludeError {
-    fn from(error: io::Error) -> IncludeError {
-        IncludeError::Io(error)
-    }
-}
-
-impl From<AllocError> for IncludeError {
-    fn from(_error: AllocError) -> IncludeError {
-        IncludeError::Io(io::Error::from(ErrorKind::OutOfMemory))
-    }
-}
-
-/// Returns why a file can't be opened.
-fn open_error(alloc: Global, error: &io::Error) -> Result<String, AllocError> {
-    match error.kind() {
-        ErrorKind::NotFound => String::from_str(alloc, "no such file"),
-        ErrorKind::PermissionDenied => String::from_str(alloc, "permission denied"),
-        _ => error.to_string(alloc),
-    }
-}
-
-impl IncludeError {
-    /// Returns the text of the error. `word` is the file, in single quotes.
-    pub fn text(&self, alloc: Global, word: &str) -> Result<String, AllocError> {
-        match self {
-            IncludeError::Reason(why) => format!(in alloc; "not included: {why} {word}"),
-            IncludeError::Full => {
-                format!(in alloc; "not included: 10000 files are included already {word}")
-            }
-            IncludeError::Io(error) => {
-                let why = open_error(alloc, error)?;
-                let why = why.as_str();
-                format!(in alloc; "cannot open {word}: {why}")
-            }
-        }
-    }
-}
-
 impl<'a> ZoneFiles<'a> {
     /// Opens a file, `-` for standard input.
     fn open<'f>(
@@ -279,6 +236,10 @@ impl<'a> ZoneFiles<'a> {
             max_entry: begin.max_entry,
             folders,
             base,
+            root: match begin.root {
+                Some(root) => Some(String::from_str(alloc, root)?),
+                None => None,
+            },
             files,
             state: begin.state,
             count: 1,
@@ -321,15 +282,18 @@ impl<'a> ZoneFiles<'a> {
                 Some(
                     Ok(
                         ParsedEntry::Include {
+                            at,
+                            end,
                             file_name_len: count,
                             has_origin,
                         },
                     ),
                 ) => {
-                    return self.visit_including(file, *count, *has_origin, visitor);
+                    let span = (*at, *end);
+                    return self.visit_including(file, span, *count, *has_origin, visitor);
                 }
-                Some(Ok(ParsedEntry::Generate { at })) if self.generates() => {
-                    self.visit_generate(&mut file, *at, visitor)?;
+                Some(Ok(ParsedEntry::Generate { at, end })) if self.generates() => {
+                    self.visit_generate(&mut file, *at, *end, visitor)?;
                 }
                 Some(Err(BlockRefusal::LongEntry)) => return self.visit_long(file, visitor),
                 Some(read) => self.visit_entry(&mut file, read, visitor)?,
@@ -491,15 +455,16 @@ impl<'a> ZoneFiles<'a> {
     }
 
     /// Passes a `$GENERATE` directive to a visitor, and then its entries. `at` is the offset of its
-    /// word. The names that it leaves are those before it.
+    /// word, and `end` that of its end. The names that it leaves are those before it.
     #[inline(never)]
     fn visit_generate<V: Visit>(
         &mut self,
         file: &mut OpenFile,
         at: usize,
+        end: usize,
         visitor: &mut V,
     ) -> Result<(), RunError> {
-        let read = Ok(ParsedEntry::Generate { at });
+        let read = Ok(ParsedEntry::Generate { at, end });
         self.visit_counted(file, &read, visitor)?;
         if self.generate.mode == GenerateMode::Reject {
             return visitor.refuse_generate(&self.entry(file, &read), RejectedDirective::NotCut);
@@ -584,11 +549,13 @@ impl<'a> ZoneFiles<'a> {
         Ok(read.is_ok())
     }
 
-    /// Passes an entry that includes a file to a visitor, and opens that file. `count` of the
-    /// octets that were appended name the file, and those after them its origin, if it has one.
+    /// Passes an entry that includes a file to a visitor, and opens that file. `span` has the offsets
+    /// of the entry's first token and of its end. `count` of the octets that were appended name the
+    /// file, and those after them its origin, if it has one.
     fn visit_including<V: Visit>(
         &mut self,
         mut file: OpenFile,
+        span: (usize, usize),
         count: usize,
         has_origin: bool,
         visitor: &mut V,
@@ -598,6 +565,8 @@ impl<'a> ZoneFiles<'a> {
         let found = self.find_included(&file, count);
         let origin = self.included_origin(count);
         let read = Ok(ParsedEntry::Include {
+            at: span.0,
+            end: span.1,
             file_name_len: count,
             has_origin,
         });
@@ -650,11 +619,43 @@ impl<'a> ZoneFiles<'a> {
             Some(base) => Some(Path::new(base.as_str())),
             None => Path::new(file.name.as_str()).parent(),
         };
+        if let Some(root) = &self.root {
+            let folder = match folder {
+                Some(folder) => folder.as_str(),
+                None => "",
+            };
+            return self.open_included(file, rooted(alloc, root.as_str(), folder, name)?);
+        }
         let joined = match folder {
             Some(folder) => folder.join(alloc, path)?,
             None => path.to_path_buf(alloc)?,
         };
-        self.open_included(file, joined.into_string())
+        match self.open_included(file, joined.into_string()) {
+            Err(IncludeError::Io(error)) if self.base.is_none() => {
+                self.open_beside_target(file, path, error)
+            }
+            opened => opened,
+        }
+    }
+
+    /// Opens a file beside the one to which the path of another leads, if the file is not beside that
+    /// path. `error` is the error there.
+    fn open_beside_target(
+        &self,
+        file: &OpenFile,
+        path: Path<'_>,
+        error: io::Error,
+    ) -> Result<OpenFile, IncludeError> {
+        if error.kind() != ErrorKind::NotFound {
+            return Err(IncludeError::Io(error));
+        }
+        match Path::new(file.full.as_str()).parent() {
+            Some(folder) => {
+                let joined = folder.join(self.rt.alloc(), path)?;
+                self.open_included(file, joined.into_string())
+            }
+            None => Err(IncludeError::Io(error)),
+        }
     }
 
     /// Opens a file, unless it is not in a directory from which files may be included, or is open.
@@ -758,6 +759,8 @@ pub struct Begin<'f> {
     /// The directory for relative paths of included files, if it is not that of the file that
     /// includes them. Files in it may be included.
     pub base: Option<&'f str>,
+    /// The directory below which absolute paths of included files are, if there is one.
+    pub root: Option<&'f str>,
     /// The name of standard input, if it has one.
     pub stdin_name: Option<&'f str>,
     /// Whether progress is not shown.

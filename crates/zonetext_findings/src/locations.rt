@@ -64,11 +64,11 @@ pub fn line_spot<'s>(
 }
 
 /// Returns the number of the field of a type's data that is a target: the host of NS, MX and SRV, and
-/// the target of CNAME.
+/// the target of CNAME, SVCB and HTTPS.
 fn target_number(rtype: RecordType) -> Option<usize> {
     match rtype {
         RecordType::NS | RecordType::CNAME => Some(0),
-        RecordType::MX => Some(1),
+        RecordType::MX | RecordType::SVCB | RecordType::HTTPS => Some(1),
         RecordType::SRV => Some(3),
         _ => None,
     }
@@ -124,17 +124,22 @@ fn on_first_line(beginning: Position, at: usize) -> Position {
     }
 }
 
-/// Returns the position of the target of a record, which is the last field of its data. `number` is
-/// the index of that field, and `start` the offset of the record's first token from the beginning of
+/// Returns whether the target of a type is the last field of its data.
+fn is_last_field(rtype: RecordType) -> bool {
+    !matches!(rtype, RecordType::SVCB | RecordType::HTTPS)
+}
+
+/// Returns the position of the target of a record. `last` is its offset, if that is known, `number`
+/// the index of its field, and `start` the offset of the record's first token from the beginning of
 /// the entry.
 fn position_of_target(
     entry: &Entry<'_>,
-    scan: OctetScan,
+    last: Option<usize>,
     start: usize,
     first: Position,
     number: usize,
 ) -> Position {
-    match last_word(entry.octets, scan) {
+    match last {
         Some(at) if start == 0 => on_first_line(first, at),
         Some(at) => position_at(entry, at),
         None => match offset_after_type(entry, number) {
@@ -162,7 +167,12 @@ pub fn target_position(
     if entry.generated.is_some() {
         return first;
     }
-    position_of_target(entry, scan, start, first, number)
+    let last = if is_last_field(*rtype) {
+        last_word(entry.octets, scan)
+    } else {
+        None
+    };
+    position_of_target(entry, last, start, first, number)
 }
 
 /// Returns the tokens of an entry, or those before its syntax error.

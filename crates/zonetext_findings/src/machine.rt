@@ -8,7 +8,7 @@ use finding_texts::{summary_of, text_of};
 use std::alloc::AllocError;
 
 /// The version of the program.
-pub const VERSION: &str = "0.2.0";
+pub const VERSION: &str = "0.3.0";
 
 /// A format for other programs.
 #[derive(Clone, Copy, PartialEq, Eq)]

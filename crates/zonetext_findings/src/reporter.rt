@@ -1,9 +1,11 @@
 //! Reports findings.
 use crate::exceptions::Exceptions;
-use crate::finding_copy::FindingCopy;
+use crate::finding_copy::{FindingCopy, copied};
+use crate::ledger::Ledger;
 use crate::machine::{Before, Format};
+use crate::word_ranks::{WordRanks, may_be_beaten};
 use dns_lexer::position::Position;
-use finding_codes::code::Code;
+use finding_codes::code::{Code, Severity};
 use finding_codes::policy::Policy;
 use finding_codes::tally::Tally;
 use finding_formats::Finding;
@@ -13,6 +15,7 @@ use findings::collector::{FindingCollector, FoundFinding, kept_finding};
 use findings::finding_order::{Kept, KeptFinding};
 use findings::shown::{Decision, can_be_excepted, decide, severity_of};
 use std::alloc::{AllocError, Global};
+use std::cmp::Ordering;
 use std::io::Write;
 use zonetext_files::stop::RunError;
 
@@ -49,6 +52,8 @@ pub struct FindingLocation<'s> {
 pub struct FindingText<'s> {
     /// Owner of the record that it is about, relative to the zone or in full.
     pub owner: &'s str,
+    /// The same owner in full.
+    pub full_owner: &'s str,
     /// Type of that record.
     pub rtype: &'s str,
     /// Message, in words. The token that it is about comes last, in single quotes.
@@ -64,6 +69,7 @@ impl<'s> FindingText<'s> {
     pub fn message(message: &'s str) -> FindingText<'s> {
         FindingText {
             owner: "",
+            full_owner: "",
             rtype: "",
             message,
             help: "",
@@ -129,6 +135,52 @@ pub struct Reporter<'a> {
     out: Vec<u8>,
     /// The findings that may be shown, if they are written at the end, in the order of the files.
     collector: Option<FindingCollector<'a, FindingCopy>>,
+    /// Whether warnings are counted, but not shown.
+    omits_warnings: bool,
+    /// What is counted over all zones of a run. It is passed from zone to zone.
+    pub ledger: Ledger,
+    /// The zone in the keys of findings, or the file if no zone is set.
+    pub zone_key: String,
+    /// The finding that was counted last, if it is judged once its key is known.
+    unjudged: Option<FoundFinding>,
+    /// The findings that a baseline may know, or that others may beat.
+    held: Vec<HeldFinding>,
+    /// Whether findings wait until [`Reporter::flush`], or are counted until then.
+    holds: bool,
+    /// The ranks of findings, if they are held.
+    words: WordRanks,
+    /// Whether memory was short for these.
+    is_short: bool,
+}
+
+/// A finding that a baseline may know, or that another may beat, until all findings of its zone are known.
+#[derive(Drop)]
+struct HeldFinding {
+    found: FoundFinding,
+    /// Its key, if findings have keys.
+    key: Option<Vec<u8>>,
+    copy: FindingCopy,
+}
+
+/// Compares two findings by file as read, line and column.
+fn compare_held(left: &HeldFinding, right: &HeldFinding) -> Ordering {
+    let (first, second) = (left.found.position, right.found.position);
+    left.found
+        .file
+        .cmp(&right.found.file)
+        .then(first.line.cmp(&second.line))
+        .then(first.column.cmp(&second.column))
+}
+
+/// Returns the number of warnings and errors that are not shown, if no warning is.
+fn hidden_beside(tally: &Tally) -> usize {
+    let shown = if tally.most == 0 {
+        tally.errors
+    } else {
+        tally.errors.min(tally.most)
+    };
+    let hidden = tally.errors.saturating_sub(shown);
+    hidden.saturating_add(tally.warnings)
 }
 
 impl<'a> Reporter<'a> {
@@ -145,13 +197,30 @@ impl<'a> Reporter<'a> {
             exceptions: Exceptions::new(rt.alloc()),
             out: Vec::new(rt.alloc()),
             collector: None,
+            omits_warnings: false,
+            ledger: Ledger::new(),
+            zone_key: String::new(rt.alloc()),
+            unjudged: None,
+            held: Vec::new(rt.alloc()),
+            holds: false,
+            words: WordRanks::new(rt.alloc()),
+            is_short: false,
         }
+    }
+
+    /// Counts warnings, and shows none.
+    pub fn omit_warnings(&mut self) {
+        self.omits_warnings = true;
     }
 
     /// Lets findings wait until [`Reporter::flush`], which chooses those that are shown, errors first,
     /// and sorts them. Findings of several records come after those of entries, and are before them in
-    /// the file.
+    /// the file. Findings that are only counted for a summary don't wait.
     pub fn wait(&mut self) {
+        self.holds = true;
+        if self.ledger.summary.is_some() {
+            return;
+        }
         let most = self.tally.most;
         self.collector = Some(FindingCollector::new(self.rt.alloc(), self.policy, most));
     }
@@ -186,13 +255,99 @@ impl<'a> Reporter<'a> {
         Ok(())
     }
 
-    /// Writes the findings that wait, in the order of the files, lines and columns.
+    /// Writes the findings that wait, in the order of the files, lines and columns. Those that a
+    /// baseline knows are left out: of each key the first ones, up to its number.
     pub fn flush(&mut self) -> Result<(), RunError> {
+        if self.is_short {
+            return Err(RunError::OutOfMemory);
+        }
+        self.judge_held()?;
         let Some(collector) = self.collector.take() else {
             return Ok(());
         };
         let shown = collector.finish()?;
         self.write_shown(shown.as_slice())
+    }
+
+    /// Judges the findings that a baseline may know, and leaves out those that it knows.
+    fn judge_held(&mut self) -> Result<(), RunError> {
+        self.held.sort_by(|left, right| compare_held(left, right))?;
+        self.held.as_mut_slice().reverse();
+        for _ in 0..self.held.len() {
+            let Some(HeldFinding { found, key, copy }) = self.held.pop() else {
+                return Ok(());
+            };
+            if self.words.is_beaten(found.code, found.file, found.position) {
+                continue;
+            }
+            if let Some(key) = &key {
+                self.ledger.count(self.rt.alloc(), key)?;
+            }
+            let is_known = match (&mut self.ledger.baseline, &key) {
+                (Some(baseline), Some(key)) => baseline.leave_out(key),
+                _ => false,
+            };
+            if !is_known {
+                self.keep_unknown(found, copy)?;
+            }
+        }
+        Ok(())
+    }
+
+    /// Judges a finding that no baseline knows, and shows it, or keeps it if findings wait.
+    fn keep_unknown(&mut self, found: FoundFinding, copy: FindingCopy) -> Result<(), RunError> {
+        let Some(judged) = self.judge(found) else {
+            return Ok(());
+        };
+        if let Some(collector) = &mut self.collector {
+            collector.keep(judged, copy)?;
+            return Ok(());
+        }
+        self.show_now(&copy.finding(), copy.line(), found.file)
+    }
+
+    /// Shows a finding at once, or counts it for the summary. `file` is the number of files that were
+    /// opened before its file.
+    fn show_now(
+        &mut self,
+        finding: &Finding<'_>,
+        line: Option<LinePart<'_>>,
+        file: usize,
+    ) -> Result<(), RunError> {
+        let alloc = self.rt.alloc();
+        if let Some(summary) = &mut self.ledger.summary {
+            summary.add(alloc, finding, file)?;
+            return Ok(());
+        }
+        self.push(finding, line)?;
+        self.write()
+    }
+
+    /// Counts a finding, and returns it if it may be shown.
+    fn judge(&mut self, found: FoundFinding) -> Option<KeptFinding> {
+        let judged = match &mut self.collector {
+            Some(collector) => {
+                let judged = collector.judge(found);
+                self.tally = collector.tally;
+                judged
+            }
+            None => {
+                let severity = severity_of(
+                    &self.policy,
+                    found.code,
+                    found.is_refused,
+                    found.is_excepted,
+                );
+                match decide(&mut self.tally, severity) {
+                    Decision::Shown(severity) => Some(kept_finding(0, found, severity)),
+                    Decision::Counted(_) | Decision::Omitted => None,
+                }
+            }
+        };
+        match judged {
+            Some(kept) if self.omits_warnings && kept.severity == Severity::Warning => None,
+            _ => judged,
+        }
     }
 
     /// Writes findings.
@@ -255,16 +410,33 @@ impl<'a> Reporter<'a> {
             is_refused,
             is_excepted,
         };
-        if let Some(collector) = &mut self.collector {
-            let judged = collector.judge(found);
-            self.tally = collector.tally;
-            return judged;
+        self.unjudged = None;
+        let severity = severity_of(&self.policy, code, is_refused, is_excepted)?;
+        if !self.is_first_of_word(found) {
+            return None;
         }
-        let severity = severity_of(&self.policy, code, is_refused, is_excepted);
-        match decide(&mut self.tally, severity) {
-            Decision::Shown(severity) => Some(kept_finding(0, found, severity)),
-            Decision::Counted(_) | Decision::Omitted => None,
+        let has_key = self.ledger.has_keys() && can_be_excepted(code, is_refused);
+        if has_key || (self.holds && may_be_beaten(code, "NS")) {
+            self.unjudged = Some(found);
+            return Some(kept_finding(0, found, severity));
         }
+        self.judge(found)
+    }
+
+    /// Returns whether no finding with a lesser rank was counted at the position of one, and adds it
+    /// then, if findings are held.
+    fn is_first_of_word(&mut self, found: FoundFinding) -> bool {
+        if !self.holds {
+            return true;
+        }
+        let (code, file, position) = (found.code, found.file, found.position);
+        if self.words.is_beaten(code, file, position) {
+            return false;
+        }
+        if self.words.add(code, file, position).is_err() {
+            self.is_short = true;
+        }
+        true
     }
 
     /// Shows a finding that was counted last, or keeps it if findings wait.
@@ -276,6 +448,7 @@ impl<'a> Reporter<'a> {
         finding_text: FindingText<'_>,
     ) -> Result<(), RunError> {
         let message = generated_message(self.rt.alloc(), spot.generated, finding_text.message)?;
+        let other_help = self.beaten_help(counted, finding_text.help)?;
         let finding = Finding {
             file: spot.file.as_bytes(),
             position: spot.position,
@@ -290,17 +463,72 @@ impl<'a> Reporter<'a> {
                 Some(text) => text.as_bytes(),
                 None => finding_text.message.as_bytes(),
             },
-            help: known(finding_text.help),
+            help: match &other_help {
+                Some(help) => Some(help.as_slice()),
+                None => known(finding_text.help),
+            },
             note: known(finding_text.note),
         };
         let line = if self.shows_lines() { spot.line } else { None };
+        if let Some(unjudged) = self.unjudged.take() {
+            return self.show_keyed(unjudged, &finding, line, finding_text);
+        }
         if let Some(collector) = &mut self.collector {
             let copy = FindingCopy::new(self.rt.alloc(), &finding, line)?;
             collector.keep(counted, copy)?;
             return Ok(());
         }
-        self.push(&finding, line)?;
-        self.write()
+        self.show_now(&finding, line, spot.number)
+    }
+
+    /// Returns the help of a held finding at the position of one that beats it, if that has none.
+    fn beaten_help(&self, counted: KeptFinding, help: &str) -> Result<Option<Vec<u8>>, AllocError> {
+        if !help.is_empty() || counted.code != Code::NsAddress {
+            return Ok(None);
+        }
+        for held in &self.held {
+            let (found, place) = (held.found, counted.position);
+            let is_there = found.position.line == place.line
+                && found.position.column == place.column;
+            if found.file == counted.file && is_there {
+                return match held.copy.finding().help {
+                    Some(help) => Ok(Some(copied(self.rt.alloc(), help)?)),
+                    None => Ok(None),
+                };
+            }
+        }
+        Ok(None)
+    }
+
+    /// Judges a finding by its key, and shows it, keeps it, or holds it if a baseline may know it.
+    fn show_keyed(
+        &mut self,
+        found: FoundFinding,
+        finding: &Finding<'_>,
+        line: Option<LinePart<'_>>,
+        finding_text: FindingText<'_>,
+    ) -> Result<(), RunError> {
+        let alloc = self.rt.alloc();
+        let key = self.ledger.key_of(
+            alloc,
+            found.code,
+            self.zone_key.as_str(),
+            finding_text.full_owner,
+            finding_text.rtype,
+        )?;
+        let copy = FindingCopy::new(alloc, finding, line)?;
+        let may_be_known = match &key {
+            Some(key) => self.ledger.may_know(key),
+            None => false,
+        };
+        if may_be_known || (self.holds && may_be_beaten(found.code, finding_text.rtype)) {
+            self.held.push(HeldFinding { found, key, copy })?;
+            return Ok(());
+        }
+        if let Some(key) = &key {
+            self.ledger.count(alloc, key)?;
+        }
+        self.keep_unknown(found, copy)
     }
 
     /// Counts and shows a finding.
@@ -347,14 +575,39 @@ impl<'a> Reporter<'a> {
         self.write()
     }
 
-    /// Reports the number of findings, unless it is 0. In a format for other programs it is
-    /// reported only if a finding is not shown.
+    /// Returns the number of findings that are not shown.
+    pub fn hidden(&self) -> usize {
+        if self.omits_warnings {
+            hidden_beside(&self.tally)
+        } else {
+            self.tally.hidden()
+        }
+    }
+
+    /// Appends the number of findings, and of those that are not shown.
+    fn push_tally(&mut self) -> Result<(), AllocError> {
+        let hidden = self.hidden();
+        if !self.omits_warnings || hidden == 0 {
+            return self.tally.push_summary(&mut self.out);
+        }
+        let all = Tally {
+            most: 0,
+            ..self.tally
+        };
+        all.push_summary(&mut self.out)?;
+        self.out.pop();
+        let text = format!(in self.rt.alloc(); ", {hidden} not shown\n")?;
+        self.out.extend_from_slice(text.as_bytes())
+    }
+
+    /// Reports the number of findings, unless it is 0, or a summary is written. In a format for other
+    /// programs it is reported only if a finding is not shown.
     pub fn summarize(&mut self) -> Result<(), RunError> {
-        let is_silent = matches!(self.form, Form::Machine(_)) && self.tally.hidden() == 0;
-        if is_silent || self.writes_comments {
+        let is_silent = matches!(self.form, Form::Machine(_)) && self.hidden() == 0;
+        if is_silent || self.writes_comments || self.ledger.summary.is_some() {
             return Ok(());
         }
-        self.tally.push_summary(&mut self.out)?;
+        self.push_tally()?;
         self.rt.stderr().write_all(self.out.as_slice())?;
         self.out.truncate(0);
         Ok(())

@@ -18,6 +18,8 @@ use zonetext_files::zone_files::Entry;
 #[derive(Drop)]
 pub struct Subject {
     owner: String,
+    /// The same owner in full, if it is that of a record.
+    full_owner: String,
     rtype: String,
 }
 
@@ -157,6 +159,7 @@ impl Text {
     pub fn finding_text(&self) -> FindingText<'_> {
         FindingText {
             owner: "",
+            full_owner: "",
             rtype: "",
             message: self.message.as_str(),
             help: self.help.as_str(),
@@ -170,6 +173,7 @@ impl Subject {
     pub fn none(alloc: Global) -> Subject {
         Subject {
             owner: String::new(alloc),
+            full_owner: String::new(alloc),
             rtype: String::new(alloc),
         }
     }
@@ -183,6 +187,7 @@ impl Subject {
     ) -> Result<Subject, AllocError> {
         Ok(Subject {
             owner: owner_text(alloc, owner, zone)?,
+            full_owner: DisplayWithDot::new(owner).to_string(alloc)?,
             rtype: type_text(alloc, rtype)?,
         })
     }
@@ -199,6 +204,7 @@ impl Subject {
             Ok(owner) => Subject::new(alloc, owner, rtype, zone),
             Err(_) => Ok(Subject {
                 owner: String::new(alloc),
+                full_owner: String::new(alloc),
                 rtype: type_text(alloc, rtype)?,
             }),
         }
@@ -217,6 +223,7 @@ impl Subject {
             Some(first) if !is_blank && directive_word(first).is_some() => Ok(Subject::none(alloc)),
             Some(first) if !is_blank => Ok(Subject {
                 owner: spelled_owner(alloc, first.text, entry.state.origin.name(), zone)?,
+                full_owner: String::new(alloc),
                 rtype: type_text(alloc, rtype)?,
             }),
             _ if is_blank => Subject::of_read(alloc, entry, rtype, zone),
@@ -251,6 +258,7 @@ impl Subject {
     pub fn finding_text<'s>(&'s self, message: &'s str, help: &'s str) -> FindingText<'s> {
         FindingText {
             owner: self.owner.as_str(),
+            full_owner: self.full_owner.as_str(),
             rtype: self.rtype.as_str(),
             message,
             help,

@@ -1,4 +1,5 @@
 //! What is written before and after the findings of all files.
+use crate::ledger::Ledger;
 use crate::machine::{push_end, push_start};
 use crate::reporter::{Form, Reporter};
 use finding_codes::tally::Tally;
@@ -13,9 +14,13 @@ pub struct Totals {
     pub has_finding: bool,
     /// Whether the files are those of many zones, whose number is reported otherwise.
     pub is_of_zones: bool,
+    /// Number of files with a journal beside them.
+    pub journals: usize,
     /// Number of files.
     files: usize,
     tally: Tally,
+    /// What is counted over all files.
+    pub ledger: Ledger,
 }
 
 impl Totals {
@@ -25,8 +30,10 @@ impl Totals {
             form,
             has_finding: false,
             is_of_zones: false,
+            journals: 0,
             files: 0,
             tally: Tally::new(0),
+            ledger: Ledger::new(),
         }
     }
 
@@ -35,8 +42,12 @@ impl Totals {
         self.tally.warnings
     }
 
-    /// Adds the findings of a file.
-    pub fn add(&mut self, reporter: &Reporter<'_>) {
+    /// Adds the findings of a file, and takes back what is counted over all files.
+    pub fn add(&mut self, reporter: &mut Reporter<'_>) {
+        self.ledger = reporter.ledger.take();
+        if let Some(summary) = &mut self.ledger.summary {
+            summary.end_zone();
+        }
         let tally = &reporter.tally;
         self.has_finding = reporter.before.has_finding;
         self.files = self.files.saturating_add(1);
@@ -63,9 +74,19 @@ impl Totals {
         }
     }
 
-    /// Writes what comes after the findings of the last file, or reports the number of files and
-    /// findings, if there are several files and any findings.
-    fn write_end(&self, rt: &HostRuntime) -> Result<(), RunError> {
+    /// Writes the summary, if it is asked for.
+    fn write_summary(&mut self, rt: &HostRuntime) -> Result<(), RunError> {
+        if let Some(summary) = &mut self.ledger.summary {
+            let lines = summary.lines(rt.alloc())?;
+            rt.stdout().write_all(lines.as_slice())?;
+        }
+        Ok(())
+    }
+
+    /// Writes the summary and what comes after the findings of the last file, or reports the number of
+    /// files and findings, if there are several files, or a summary, and any findings.
+    fn write_end(&mut self, rt: &HostRuntime) -> Result<(), RunError> {
+        self.write_summary(rt)?;
         let mut out = Vec::new(rt.alloc());
         if let Form::Machine(format) = self.form {
             push_end(&mut out, format)?;
@@ -73,17 +94,20 @@ impl Totals {
             return Ok(());
         }
         self.tally.push_summary(&mut out)?;
-        if self.files < 2 || out.is_empty() || self.is_of_zones {
+        let is_one = self.files < 2;
+        if (is_one && self.ledger.summary.is_none()) || out.is_empty() || self.is_of_zones {
             return Ok(());
         }
-        let files = self.files;
-        eprint!(rt; "{files} files: ")?;
+        if !is_one {
+            let files = self.files;
+            eprint!(rt; "{files} files: ")?;
+        }
         rt.stderr().write_all(out.as_slice())?;
         Ok(())
     }
 
-    /// Writes what comes after the findings of the last file, and returns the status.
-    pub fn end(&self, rt: &HostRuntime) -> u8 {
+    /// Writes the summary and what comes after the findings of the last file, and returns the status.
+    pub fn end(&mut self, rt: &HostRuntime) -> u8 {
         match self.write_end(rt) {
             Ok(()) => 0,
             Err(stop) => exit_status(rt, "-", stop),

@@ -1,5 +1,6 @@
 //! The command `diff`: compares the records of two zone files.
 use crate::json_records::push_json_record;
+use crate::removals::{RemovalLimit, report_removals};
 use crate::stored_records::{Kept, StoredRecords, store_records};
 use crate::visit::Reading;
 use rdata_values::RecordType;
@@ -26,9 +27,12 @@ pub struct Output {
     pub most: Option<u32>,
     /// Whether the status is [`UNFIT`] if the serial did not rise.
     pub needs_serial: bool,
+    /// The number of records that may be removed, if it is limited. With more, the status is [`UNFIT`].
+    pub most_removed: Option<RemovalLimit>,
 }
 
-/// The status if the serial did not rise, or if an update can't make the changes.
+/// The status if the serial did not rise, if too many records are removed, or if an update can't make
+/// the changes.
 pub const UNFIT: u8 = 4;
 
 /// The number of changes of records of a type.
@@ -40,7 +44,7 @@ struct Count {
 }
 
 /// Returns the type of a record, if the zone has one at this index.
-fn rtype_at(zone: &StoredRecords, place: usize) -> Option<RecordType> {
+pub(crate) fn rtype_at(zone: &StoredRecords, place: usize) -> Option<RecordType> {
     if place < zone.zone.len() {
         Some(zone.zone.rtype(place))
     } else {
@@ -278,6 +282,9 @@ fn compare(
     if changes.is_empty() {
         return Ok(0);
     }
+    if report_removals(rt, old, changes, output.most_removed)? {
+        return Ok(UNFIT);
+    }
     if output.is_summary {
         write_summary(rt, &counts_of(rt.alloc(), old, new, changes)?)?;
     } else {
@@ -288,7 +295,8 @@ fn compare(
 }
 
 /// Compares two files, and returns the status: 1 if their records differ, or an entry is rejected;
-/// with `needs_serial`, [`UNFIT`] if they differ and the serial did not rise.
+/// with `needs_serial`, [`UNFIT`] if they differ and the serial did not rise. If more records than
+/// `most_removed` are removed, it is [`UNFIT`], and no change is written.
 #[inline(never)]
 pub fn run(
     rt: &HostRuntime,

@@ -11,6 +11,7 @@ pub mod json_records;
 pub mod lowerer;
 mod merging;
 pub mod records;
+pub mod removals;
 mod run_files;
 mod sorter;
 mod sorting;

@@ -2,6 +2,7 @@
 //! nsupdate.
 use crate::changes::{UNFIT, record_at, report_serial};
 use crate::chosen_records::{ByPlace, RecordChange, SpelledRecord, choose, record_changes};
+use crate::removals::{RemovalLimit, report_removals};
 use crate::stored_records::{Kept, StoredRecords, store_records};
 use crate::update_lines::{is_long, push_without_ttl, record_text};
 use crate::visit::Reading;
@@ -48,6 +49,8 @@ pub struct Work {
     pub has_keys: bool,
     /// Whether records of DNSSEC are compared.
     pub has_signing: bool,
+    /// The number of records that may be removed, if it is limited.
+    pub most_removed: Option<RemovalLimit>,
 }
 
 /// An operation of an update on a record.
@@ -635,6 +638,9 @@ fn compare(
 ) -> Result<u8, RunError> {
     let alloc = rt.alloc();
     let changes = changes_between_zones(alloc, &old.zone, &new.zone)?;
+    if report_removals(rt, old, changes.as_slice(), work.most_removed)? {
+        return Ok(UNFIT);
+    }
     let zone = zone_of(reading, files.0, old, new);
     let old_chosen = choose(alloc, old, zone.as_ref(), changes.as_slice(), true)?;
     let new_chosen = choose(alloc, new, zone.as_ref(), changes.as_slice(), false)?;
@@ -666,7 +672,7 @@ fn compare(
 
 /// Writes the update from the zone of one file to that of another, and returns the status: 0 if
 /// they have the same records, 1 if not or if an entry is rejected, and [`UNFIT`] if no update makes
-/// the changes.
+/// the changes, or if more records than `most_removed` are removed.
 #[inline(never)]
 pub fn run(rt: &HostRuntime, first: &str, second: &str, reading: &Reading<'_>, work: Work) -> u8 {
     let selection = Selection {

@@ -11,9 +11,10 @@ use zone_format::place::LocatedOffset;
 use zone_reader::{NameBuffer, ParsedEntry, State};
 use zonetext_checker::checker::{Checker, Limits, SoaInfo};
 use zonetext_files::generated::{GenerateMode, GenerateOptions, RejectedDirective};
+use zonetext_files::include_error::IncludeError;
 use zonetext_files::shown::Shown;
 use zonetext_files::stop::{RunError, exit_status};
-use zonetext_files::zone_files::{Begin, Entry, IncludeError, Visit, visit_file};
+use zonetext_files::zone_files::{Begin, Entry, Visit, visit_file};
 use zonetext_findings::locations::position_at;
 use zonetext_findings::reporter::{Form, Reporter};
 use zonetext_zones::zone_names::Zone;
@@ -209,6 +210,7 @@ fn visit_files<T: EntryVisitor + Drop>(
             max_entry: reading.max_entry,
             folders: reading.folders,
             base: reading.base,
+            root: None,
             stdin_name: None,
             is_quiet: reading.is_quiet,
         };

@@ -10,6 +10,8 @@ pub struct ArgRow {
     /// Letter of the option, if it has one.
     pub short: Option<char>,
     pub help: &'static str,
+    /// Heading in the help, or an empty text for `Options`.
+    pub heading: &'static str,
     /// Whether it is an argument, whose name isn't written on a command line.
     pub is_argument: bool,
     pub is_required: bool,
@@ -31,6 +33,7 @@ pub const FLAG: ArgRow = ArgRow {
     name: "",
     short: None,
     help: "",
+    heading: "",
     is_argument: false,
     is_required: false,
     action: ArgAction::SetTrue,
@@ -84,7 +87,8 @@ pub const OVER_FILES: [ArgRow; 2] = [
 pub const BASE: ArgRow = ArgRow {
     name: "base",
     value_name: &["DIR"],
-    help: "folder for relative names of included files, in place of the including file's",
+    help: "folder for relative names of included files\n(default: the including file's)",
+    heading: "Zone",
     ..VALUED
 };
 
@@ -92,7 +96,8 @@ pub const BASE: ArgRow = ArgRow {
 pub const MAX_ENTRY: ArgRow = ArgRow {
     name: "max-entry",
     value_name: &["SIZE"],
-    help: "maximum length of an entry in octets, as 2M (default 1M)",
+    help: "maximum octets of an entry, as 2M (default 1M)",
+    heading: "Limits",
     ..VALUED
 };
 
@@ -101,7 +106,7 @@ pub const MAX_ENTRY: ArgRow = ArgRow {
 pub struct CommandTable {
     pub name: &'static str,
     pub about: &'static str,
-    /// The last line of its help.
+    /// The last lines of its help.
     pub example: &'static str,
     /// Its options and arguments, in groups that commands share.
     pub groups: &'static [&'static [ArgRow]],
@@ -141,6 +146,7 @@ fn unnamed_arg<'a>(alloc: Global, row: &ArgRow) -> Arg<'a> {
         .value_names(row.value_name)
         .action(row.action)
         .required(row.is_required)
+        .hide_possible_values(true)
 }
 
 /// Returns an option or argument without its aliases, and without the options that it requires and
@@ -150,9 +156,18 @@ fn named_arg<'a>(alloc: Global, row: &ArgRow) -> Arg<'a> {
     with_values(with_short(arg, row.short), row.possible_values)
 }
 
+/// Sets the heading of an option, if it has one.
+fn with_heading<'a>(arg: Arg<'a>, heading: &'static str) -> Arg<'a> {
+    if heading.is_empty() {
+        arg
+    } else {
+        arg.help_heading(heading)
+    }
+}
+
 /// Returns the option or argument of a row.
 fn arg_of<'a>(alloc: Global, row: &ArgRow) -> Result<Arg<'a>, AllocError> {
-    named_arg(alloc, row)
+    with_heading(named_arg(alloc, row), row.heading)
         .visible_aliases(row.aliases)?
         .requires_all(row.needs)?
         .conflicts_with_all(row.conflicts)

@@ -5,6 +5,7 @@
 pub mod arguments;
 mod config_files;
 pub mod listed_zones;
+mod named_once;
 pub mod named_zones;
 pub mod nsd_zones;
 pub mod options;

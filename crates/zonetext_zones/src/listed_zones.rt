@@ -1,7 +1,7 @@
 //! Lists of zones: lines with a zone and its file.
 use crate::options::name_of;
 use crate::zone_sources::{
-    SourceError, Sources, ZoneSource, error_at, octets_between, octets_in, text_of_file,
+    SourceError, Sources, ZoneSource, error_at, no_zone_in, octets_between, octets_in, text_of_file,
 };
 use server_config::{ListLine, TextSpan, list_line};
 use std::alloc::Global;
@@ -92,6 +92,7 @@ fn line_end(text: &[u8], from: usize) -> usize {
 pub fn add_listed(rt: &HostRuntime, file: &str, sources: &mut Sources) -> Result<(), SourceError> {
     let text = text_of_file(rt, file)?;
     let text = text.as_slice();
+    let before = sources.zones.len();
     let mut at = 0;
     for _ in 0..u64::MAX {
         if text.len() <= at {
@@ -106,6 +107,9 @@ pub fn add_listed(rt: &HostRuntime, file: &str, sources: &mut Sources) -> Result
         };
         line.add(rt.alloc(), sources)?;
         at = end.saturating_add(1);
+    }
+    if sources.zones.len() == before {
+        return Err(no_zone_in(rt.alloc(), file));
     }
     Ok(())
 }

@@ -1,14 +1,20 @@
 //! The zones of a `named.conf`.
 use crate::config_files::{ConfigFile, ConfigFiles, span_of, span_of_error};
+use crate::named_once::{NamedPlace, named_once};
 use crate::options::{name_of, seconds_in};
-use crate::zone_sources::{SourceError, Sources, ZoneSource, config_message, joined};
+use crate::zone_sources::{
+    SourceError, Sources, ZoneSource, config_message, located_path, no_zone_in, position_of,
+};
 use rdata_values::Class;
 use server_config::{
-    BlockName, ConfigBlock, ConfigEvent, ConfigState, ConfigToken, OmitReason, Settings, Severity,
-    ZoneOutcome, ZoneSettings, append_named_string, next_step, zone_outcome,
+    BlockName, ConfigBlock, ConfigEvent, ConfigState, ConfigToken, LastClause, OmitReason,
+    Settings, Severity, ZoneOutcome, ZoneSettings, append_named_string, next_step, next_token,
+    zone_outcome,
 };
 use std::alloc::{AllocError, Global};
 use std::mem;
+use strsim::levenshtein;
+use zonetext_files::shown::quoted;
 
 /// The greatest TTL of zones: `max-zone-ttl`.
 #[derive(Clone, Copy)]
@@ -95,6 +101,8 @@ struct NamedReader<'r> {
     state: ConfigState,
     /// For each open file that another includes, the state where that includes it.
     outers: Vec<ConfigState>,
+    /// The directory below which absolute paths are, if there is one.
+    root: Option<&'r str>,
     /// The last `directory`, joined to those before it.
     directory: String,
     options: OuterBlock,
@@ -104,6 +112,8 @@ struct NamedReader<'r> {
     /// The zone that is open.
     zone: NamedZone,
     zones: Vec<NamedZone>,
+    /// The first type that is not known, with its position.
+    unknown_type: Option<String>,
 }
 
 /// Returns a zone without a name.
@@ -153,6 +163,24 @@ fn max_ttl_of(alloc: Global, file: &ConfigFile, token: ConfigToken) -> Result<Ma
     }
 }
 
+/// Returns the keyword that a word nearly is, if it is one of those of zones: at most two letters are added,
+/// missing or another.
+fn nearly_keyword<'k>(alloc: Global, word: &[u8]) -> Result<Option<&'k str>, AllocError> {
+    let Ok(word) = str::from_utf8(word) else {
+        return Ok(None);
+    };
+    if 6 < word.len() {
+        return Ok(None);
+    }
+    let word = word.to_ascii_lowercase(alloc)?;
+    for keyword in ["zone", "view"] {
+        if levenshtein(alloc, word.as_str(), keyword)? <= 2 {
+            return Ok(Some(keyword));
+        }
+    }
+    Ok(None)
+}
+
 /// Returns the error of a zone, at its name.
 fn zone_error(alloc: Global, zone: &NamedZone, message: &str) -> SourceError {
     match zone_text(alloc, zone, message) {
@@ -169,20 +197,31 @@ fn zone_text(alloc: Global, zone: &NamedZone, message: &str) -> Result<String, A
 
 impl<'r> NamedReader<'r> {
     /// Returns a reader before the first file.
-    fn new(rt: &'r HostRuntime, files: ConfigFiles) -> NamedReader<'r> {
+    fn new(
+        rt: &'r HostRuntime,
+        files: ConfigFiles,
+        root: Option<&'r str>,
+    ) -> Result<NamedReader<'r>, AllocError> {
         let alloc = rt.alloc();
-        NamedReader {
+        Ok(NamedReader {
             rt,
             files,
             state: ConfigState::new(),
             outers: Vec::new(alloc),
-            directory: String::new(alloc),
+            root,
+            directory: String::from_str(alloc, root.unwrap_or(""))?,
             options: OuterBlock::new(),
             view: OuterBlock::new(),
             views: Vec::new(alloc),
             zone: no_zone(alloc),
             zones: Vec::new(alloc),
-        }
+            unknown_type: None,
+        })
+    }
+
+    /// Returns a path that is relative to the directory, or absolute.
+    fn path(&self, path: &str) -> Result<String, AllocError> {
+        located_path(self.rt.alloc(), self.root, self.directory.as_str(), path)
     }
 
     /// Begins a zone.
@@ -243,20 +282,60 @@ impl<'r> NamedReader<'r> {
         Ok(())
     }
 
+    /// Keeps the first type of a zone that is not known, with its position.
+    fn note_type(&mut self, file: &mut ConfigFile, token: ConfigToken) -> Result<(), SourceError> {
+        if self.unknown_type.is_some() {
+            return Ok(());
+        }
+        let alloc = self.rt.alloc();
+        let place = file.place(alloc, token.at)?;
+        let word = quoted(alloc, token.content(file.text.as_slice()))?;
+        let (word, position) = (word.as_str(), position_of(place.as_str()));
+        self.unknown_type = Some(format!(in alloc; "{word} ({position})")?);
+        Ok(())
+    }
+
+    /// Fails if a statement outside of blocks begins with a word that is nearly `zone` or `view`.
+    fn check_word(
+        &mut self,
+        file: &ConfigFile,
+        from: usize,
+        before: ConfigState,
+    ) -> Result<(), SourceError> {
+        if !matches!(before.block, ConfigBlock::Outside) || 0 < before.depth {
+            return Ok(());
+        }
+        if !matches!(before.last, LastClause::Statement) {
+            return Ok(());
+        }
+        let Ok(Some(token)) = next_token(file.text.as_slice(), from) else {
+            return Ok(());
+        };
+        let alloc = self.rt.alloc();
+        match nearly_keyword(alloc, token.content(file.text.as_slice()))? {
+            Some(keyword) => {
+                let message = format!(in alloc; "no such statement; did you mean {keyword}?")?;
+                Err(file.error(alloc, span_of(token), message.as_str()))
+            }
+            None => Ok(()),
+        }
+    }
+
     /// Sets the directory of relative paths.
     fn set_directory(&mut self, file: &ConfigFile, token: ConfigToken) -> Result<(), SourceError> {
         let alloc = self.rt.alloc();
         let path = string_of(alloc, file, token)?;
-        self.directory = joined(alloc, self.directory.as_str(), path.as_str())?;
+        self.directory = self.path(path.as_str())?;
         Ok(())
     }
 
-    /// Processes what a statement means. `before` is the state before it.
+    /// Processes what a statement means. `before` is the state before it, `from` its offset.
     fn process_event(
         &mut self,
         file: &mut ConfigFile,
         event: ConfigEvent,
         before: ConfigState,
+        from: usize,
     ) -> Result<(), SourceError> {
         match event {
             ConfigEvent::Directory(token) => self.set_directory(file, token),
@@ -265,6 +344,8 @@ impl<'r> NamedReader<'r> {
                 Ok(())
             }
             ConfigEvent::MaxZoneTtl(token) => self.set_max_ttl(file, token, before.block),
+            ConfigEvent::UnknownType(token) => self.note_type(file, token),
+            ConfigEvent::Passed => self.check_word(file, from, before),
             ConfigEvent::OpenView(name) => self.open_view(file, name),
             ConfigEvent::CloseView => self.close_view(before),
             ConfigEvent::OpenZone(name) => self.open_zone(file, name),
@@ -277,7 +358,7 @@ impl<'r> NamedReader<'r> {
     fn include(&mut self, file: ConfigFile, token: ConfigToken) -> Result<(), SourceError> {
         let alloc = self.rt.alloc();
         let path = string_of(alloc, &file, token)?;
-        let pattern = joined(alloc, self.directory.as_str(), path.as_str())?;
+        let pattern = self.path(path.as_str())?;
         self.files
             .include(self.rt, file, span_of(token), pattern.as_str())
     }
@@ -297,7 +378,7 @@ impl<'r> NamedReader<'r> {
                     return Err(file.error(self.rt.alloc(), span_of_error(error), message));
                 }
             };
-            let before = self.state;
+            let (before, from) = (self.state, file.from);
             file.from = step.next;
             self.state = step.state;
             match step.event {
@@ -308,7 +389,7 @@ impl<'r> NamedReader<'r> {
                     return Ok(());
                 }
                 ConfigEvent::Include(token) => return self.include(file, token),
-                event => self.process_event(&mut file, event, before)?,
+                event => self.process_event(&mut file, event, before, from)?,
             }
         }
         Ok(())
@@ -335,12 +416,25 @@ impl<'r> NamedReader<'r> {
         let check_names = zone.settings.settings.within(&outer.settings).check_names;
         Ok(ZoneSource {
             zone: Some(String::from_str(alloc, zone.name.as_str())?),
-            file: joined(alloc, directory, zone.file.as_str())?,
+            file: self.path(zone.file.as_str())?,
             class: zone.class.or(outer.class),
             base: Some(String::from_str(alloc, base)?),
             max_ttl: zone.max_ttl.within(outer.max_ttl).seconds(),
             needs_host_names: !matches!(check_names, Some(Severity::Warn) | Some(Severity::Ignore)),
         })
+    }
+
+    /// Returns the zones' names with their places.
+    fn places(&self) -> Result<Vec<NamedPlace<'_>>, AllocError> {
+        let mut places = Vec::new(self.rt.alloc());
+        for zone in &self.zones {
+            places.push(NamedPlace {
+                view: zone.view,
+                name: zone.name.as_str(),
+                place: zone.place.as_str(),
+            })?;
+        }
+        Ok(places)
     }
 
     /// Adds a zone, or counts it if it is left out.
@@ -367,22 +461,28 @@ impl<'r> NamedReader<'r> {
     }
 }
 
-/// Adds the zones of a `named.conf`.
-pub fn add_named(
-    rt: &HostRuntime,
-    name: &str,
+/// Adds the zones of a `named.conf`. With a root, its paths are below that.
+pub fn add_named<'r>(
+    rt: &'r HostRuntime,
+    name: &'r str,
     text: Vec<u8>,
+    root: Option<&'r str>,
     sources: &mut Sources,
 ) -> Result<(), SourceError> {
-    let mut reader = NamedReader::new(rt, ConfigFiles::first(rt, name, text)?);
+    let mut reader = NamedReader::new(rt, ConfigFiles::first(rt, name, text)?, root)?;
     for _ in 0..u64::MAX {
         match reader.files.next() {
             Some(file) => reader.read(file)?,
             None => break,
         }
     }
+    if reader.zones.is_empty() {
+        return Err(no_zone_in(rt.alloc(), name));
+    }
+    named_once(rt.alloc(), reader.places()?.as_slice())?;
     for zone in &reader.zones {
         reader.add(zone, sources)?;
     }
+    sources.unknown_type = reader.unknown_type.take();
     Ok(())
 }

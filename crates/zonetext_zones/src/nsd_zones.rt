@@ -1,13 +1,17 @@
 //! The zones of an `nsd.conf`.
 use crate::config_files::{ConfigFile, ConfigFiles, span_of, span_of_error};
+use crate::named_once::{NamedPlace, named_once};
 use crate::options::name_of;
-use crate::zone_sources::{SourceError, Sources, ZoneSource, config_message, joined};
+use crate::zone_sources::{
+    SourceError, Sources, ZoneSource, config_message, located_path, no_zone_in,
+};
 use server_config::{
     ConfigToken, NsdEvent, NsdSection, ZoneOutcome, append_zone_path, next_nsd_step,
     nsd_zone_outcome,
 };
 use std::alloc::{AllocError, Global};
 use std::path::Path;
+use zonetext_files::root_path::rooted;
 
 /// A zone or a pattern.
 #[derive(Drop)]
@@ -26,6 +30,8 @@ struct NsdReader<'r> {
     rt: &'r HostRuntime,
     files: ConfigFiles,
     section: NsdSection,
+    /// The directory below which absolute paths are, if there is one.
+    root: Option<&'r str>,
     /// The folder of relative paths.
     folder: String,
     /// The zone or the pattern that is open.
@@ -63,6 +69,7 @@ impl<'r> NsdReader<'r> {
         rt: &'r HostRuntime,
         name: &str,
         files: ConfigFiles,
+        root: Option<&'r str>,
     ) -> Result<NsdReader<'r>, AllocError> {
         let alloc = rt.alloc();
         let folder = match Path::new(name).parent() {
@@ -73,11 +80,20 @@ impl<'r> NsdReader<'r> {
             rt,
             files,
             section: NsdSection::Other,
+            root,
             folder,
             block: None,
             patterns: Vec::new(alloc),
             zones: Vec::new(alloc),
         })
+    }
+
+    /// Returns a path below the root, if there is one.
+    fn in_root(&self, path: String) -> Result<String, AllocError> {
+        match self.root {
+            Some(root) => rooted(self.rt.alloc(), root, root, path.as_str()),
+            None => Ok(path),
+        }
     }
 
     /// Ends the zone or the pattern that is open.
@@ -184,7 +200,8 @@ impl<'r> NsdReader<'r> {
                 Ok(())
             }
             NsdEvent::ZonesDir(token) => {
-                self.folder = string_of(alloc, file, token)?;
+                let path = string_of(alloc, file, token)?;
+                self.folder = self.in_root(path)?;
                 Ok(())
             }
             _ => Ok(()),
@@ -193,7 +210,7 @@ impl<'r> NsdReader<'r> {
 
     /// Continues with the files that another includes.
     fn include(&mut self, file: ConfigFile, token: ConfigToken) -> Result<(), SourceError> {
-        let pattern = string_of(self.rt.alloc(), &file, token)?;
+        let pattern = self.in_root(string_of(self.rt.alloc(), &file, token)?)?;
         self.files
             .include(self.rt, file, span_of(token), pattern.as_str())
     }
@@ -233,12 +250,25 @@ impl<'r> NsdReader<'r> {
         let base = if folder.is_empty() { "." } else { folder };
         Ok(ZoneSource {
             zone: Some(String::from_str(alloc, name)?),
-            file: joined(alloc, folder, path)?,
+            file: located_path(alloc, self.root, folder, path)?,
             class: None,
             base: Some(String::from_str(alloc, base)?),
             max_ttl: None,
             needs_host_names: false,
         })
+    }
+
+    /// Returns the zones' names with their places.
+    fn places(&self) -> Result<Vec<NamedPlace<'_>>, AllocError> {
+        let mut places = Vec::new(self.rt.alloc());
+        for zone in &self.zones {
+            places.push(NamedPlace {
+                view: None,
+                name: zone.name.as_str(),
+                place: zone.place.as_str(),
+            })?;
+        }
+        Ok(places)
     }
 
     /// Adds a zone, or counts it if it is left out.
@@ -260,14 +290,15 @@ impl<'r> NsdReader<'r> {
     }
 }
 
-/// Adds the zones of an `nsd.conf`.
-pub fn add_nsd(
-    rt: &HostRuntime,
-    name: &str,
+/// Adds the zones of an `nsd.conf`. With a root, its paths are below that.
+pub fn add_nsd<'r>(
+    rt: &'r HostRuntime,
+    name: &'r str,
     text: Vec<u8>,
+    root: Option<&'r str>,
     sources: &mut Sources,
 ) -> Result<(), SourceError> {
-    let mut reader = NsdReader::new(rt, name, ConfigFiles::first(rt, name, text)?)?;
+    let mut reader = NsdReader::new(rt, name, ConfigFiles::first(rt, name, text)?, root)?;
     for _ in 0..u64::MAX {
         match reader.files.next() {
             Some(file) => reader.read(file)?,
@@ -275,6 +306,10 @@ pub fn add_nsd(
         }
     }
     reader.end_block()?;
+    if reader.zones.is_empty() {
+        return Err(no_zone_in(rt.alloc(), name));
+    }
+    named_once(rt.alloc(), reader.places()?.as_slice())?;
     for zone in &reader.zones {
         reader.add(zone, sources)?;
     }

@@ -15,7 +15,7 @@ use zonetext_files::stop::EXIT_IO;
 const NAME: &str = ".zonetext.toml";
 
 /// Its keys.
-const KEYS: &str = "allow, base, deny, include or max-ttl";
+const KEYS: &str = "allow, base, deny, include, max-ttl or skip-type";
 
 /// The settings of a folder.
 #[derive(Drop)]
@@ -27,6 +27,8 @@ pub struct Settings {
     /// The directory for relative paths of included files.
     pub base: Option<String>,
     pub max_ttl: Option<u32>,
+    /// The types whose entries are skipped.
+    pub skipped: Vec<String>,
 }
 
 /// Why settings can't be used.
@@ -157,6 +159,7 @@ impl Settings {
             folders: Vec::new(alloc),
             base: None,
             max_ttl: None,
+            skipped: Vec::new(alloc),
         }
     }
 
@@ -178,6 +181,12 @@ impl Settings {
             "include" => {
                 for path in &strings_of(alloc, key, value)? {
                     self.folders.push(below(alloc, folder, path)?)?;
+                }
+                Ok(())
+            }
+            "skip-type" => {
+                for word in &strings_of(alloc, key, value)? {
+                    self.skipped.push(String::from_str(alloc, word)?)?;
                 }
                 Ok(())
             }

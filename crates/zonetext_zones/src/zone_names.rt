@@ -20,6 +20,7 @@ pub enum Zone<'o> {
 pub const ZONE: ArgRow = ArgRow {
     name: "zone",
     value_name: &["ORIGIN"],
+    heading: "Zone",
     conflicts: &["zone-from-name"],
     ..VALUED
 };
@@ -27,7 +28,8 @@ pub const ZONE: ArgRow = ArgRow {
 /// The option `--zone-from-name`.
 pub const ZONE_FROM_NAME: ArgRow = ArgRow {
     name: "zone-from-name",
-    help: "like --zone, with the file's name without .zone or .db",
+    help: "like --zone, by the file's name less .zone or .db",
+    heading: "Zone",
     ..FLAG
 };
 

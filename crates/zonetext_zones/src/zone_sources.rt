@@ -8,6 +8,7 @@ use std::path::Path;
 use std::{fs, io};
 use zone_format::place::LocatedOffset;
 use zonetext_files::open_file::{first_place, place_after};
+use zonetext_files::root_path::rooted;
 use zonetext_files::shown::{Shown, quoted};
 use zonetext_files::stop::EXIT_IO;
 
@@ -33,6 +34,8 @@ pub struct ZoneSource {
 pub struct Sources {
     pub zones: Vec<ZoneSource>,
     pub omitted: OmittedCounts,
+    /// The first type of a zone that is not known, with its position.
+    pub unknown_type: Option<String>,
     /// Messages about what is not checked, each for a line.
     pub notes: Vec<String>,
     /// Files whose name doesn't say their zone.
@@ -45,6 +48,7 @@ impl Sources {
         Sources {
             zones: Vec::new(alloc),
             omitted: OmittedCounts::new(),
+            unknown_type: None,
             notes: Vec::new(alloc),
             unclear: Vec::new(alloc),
         }
@@ -122,6 +126,37 @@ pub fn place_text(alloc: Global, file: &str, place: LocatedOffset) -> Result<Str
     format!(in alloc; "{file}:{line}:{column}")
 }
 
+/// Returns the position of a place, as `LINE:COLUMN`.
+pub fn position_of(place: &str) -> &str {
+    str::from_utf8(file_and_position(place).1).unwrap_or(place)
+}
+
+/// Returns the file and the position of a place.
+pub fn file_and_position(place: &str) -> (&[u8], &[u8]) {
+    let octets = place.as_bytes();
+    let mut end = octets.len();
+    let mut colons: usize = 0;
+    for octet in octets.iter().rev() {
+        end = end.saturating_sub(1);
+        if *octet == b':' {
+            colons = colons.saturating_add(1);
+        }
+        if colons == 2 {
+            break;
+        }
+    }
+    let file = octets.get(..end).unwrap_or(octets);
+    (file, octets.get(end.saturating_add(1)..).unwrap_or(octets))
+}
+
+/// Returns the error of a configuration or a list that names no zone.
+pub fn no_zone_in(alloc: Global, file: &str) -> SourceError {
+    match format!(in alloc; "{file}: no zone in it") {
+        Ok(text) => SourceError::Text(text),
+        Err(_) => SourceError::OutOfMemory,
+    }
+}
+
 /// Returns a message with its place. The octets between two offsets are its word, unless there are
 /// none.
 fn message_at(
@@ -154,6 +189,37 @@ pub fn error_at(
         Ok(message) => SourceError::Text(message),
         Err(_) => SourceError::OutOfMemory,
     }
+}
+
+/// Returns the length of the blanks with which a line begins.
+fn blanks_of(line: &[u8]) -> usize {
+    let mut count: usize = 0;
+    for octet in line {
+        if *octet != b' ' && *octet != b'\t' {
+            return count;
+        }
+        count = count.saturating_add(1);
+    }
+    count
+}
+
+/// Fails if a text is a `knot.conf`: a line begins with `- domain:`.
+pub fn refuse_knot(alloc: Global, file: &str, text: &[u8]) -> Result<(), SourceError> {
+    const KEYWORD: &[u8] = b"- domain:";
+    let mut at: usize = 0;
+    for line in text.split(|octet| *octet == b'\n') {
+        let word = at.saturating_add(blanks_of(line));
+        let span = TextSpan {
+            at: word,
+            end: word.saturating_add(KEYWORD.len()),
+        };
+        if octets_in(text, span) == KEYWORD {
+            let message = "a knot.conf: check the folder of its ZONE.zone files";
+            return Err(error_at(alloc, file, text, span, message));
+        }
+        at = at.saturating_add(line.len()).saturating_add(1);
+    }
+    Ok(())
 }
 
 /// Returns why a file can't be read.
@@ -200,6 +266,19 @@ pub fn text_of_file(rt: &HostRuntime, file: &str) -> Result<Vec<u8>, SourceError
 /// Returns a path that is relative to a folder, which is empty for the working directory.
 pub fn joined(alloc: Global, folder: &str, path: &str) -> Result<String, AllocError> {
     Ok(Path::new(folder).join(alloc, path)?.into_string())
+}
+
+/// Returns a path that is relative to a folder, or absolute. With a root it is below that.
+pub fn located_path(
+    alloc: Global,
+    root: Option<&str>,
+    folder: &str,
+    path: &str,
+) -> Result<String, AllocError> {
+    match root {
+        Some(root) => rooted(alloc, root, folder, path),
+        None => joined(alloc, folder, path),
+    }
 }
 
 /// Returns the message of an error of a configuration.

@@ -2,6 +2,7 @@
 use super::Checker;
 use crate::held_zone::{SortedZone, broken_rules, lacks_soa};
 use crate::hidden_zone::report_hidden;
+use crate::length_texts::length_text;
 use crate::rule_texts::{CheckedZone, other_soa};
 use crate::signature_groups::groups_of;
 use dns_octets::AsOctets;
@@ -36,7 +37,9 @@ impl<'a> Checker<'a> {
         let mut findings = Vec::new(self.alloc);
         find_in_zone(broken.as_slice(), context, seen, &mut findings)?;
         for finding in &findings {
-            self.findings.report_rule(checked, finding)?;
+            if !(self.lacks_ttl && finding.rule.code == Code::TtlDiffers) {
+                self.findings.report_rule(checked, finding)?;
+            }
         }
         Ok(())
     }
@@ -120,8 +123,11 @@ impl<'a> Checker<'a> {
             if (!is_whole && code.is_of_absence()) || code.is_of_time() {
                 continue;
             }
-            self.findings
-                .report_broken(held, code, Some(finding.record))?;
+            let record = Some(finding.record);
+            match length_text(self.alloc, zone, held, code, finding.record)? {
+                Some(text) => self.findings.report_at(held, code, record, false, &text)?,
+                None => self.findings.report_broken(held, code, record)?,
+            }
         }
         let joins = self.findings.reporter.joins_equal();
         let groups = groups_of(self.alloc, found.as_slice(), held, joins)?;
