@@ -1,5 +1,5 @@
 -- A text spells one list of octets as data of a type, and an entry of a `$GENERATE` directive has one text: so these calls need one length.
-use Rattle.std.proofs.Common.{ℕ, ◌≡◌, ◌⊎◌, Bool, true, false, List, [], ◌∷◌, ◌++◌, length, length-append, take, refl, sym, ap, subst, ◌∙◌, arith, inl, inr, Option, Some, None, Result, Ok, Err}
+use Rattle.std.proofs.Common.{ℕ, ◌≡◌, Bool, true, false, List, [], ◌∷◌, ◌++◌, length, length-append, take, refl, sym, ap, subst, ◌∙◌, arith, inl, inr, Option, Some, None, Result, Ok, Err}
 use Rattle.std.proofs.lemmas.Bool.{cases_lt}
 use Rattle.dns_octets.specs.Room.{exactly}
 use Rattle.dns_lexer.specs.EntryTokens.{BeginsToken, EndIs, IsSeen, TokenIs, TokenSeen}
@@ -12,18 +12,9 @@ use Rattle.dns_wire.specs.Wire.{wire}
 use Rattle.dns_wire.specs.declared.error.NameError.{NameError}
 use Rattle.dns_wire.specs.declared.error.NameError.TheVariants.{BadLabel as NoLabel, CompressedName, LongName, TrailingData, ShortInput as CutShort, Relative, Absolute}
 use Rattle.dns_wire.proofs.OneAnswer.{name_same}
-use Rattle.rdata.specs.ByType.{HasShape, ReadsType, SpellsGenericData, SpellsTypeData, shape_of_code}
-use Rattle.rdata.specs.Data.{HasLength, SpellsData}
-use Rattle.rdata.specs.Generic.{BeginsGeneric, SpellsGeneric}
-use Rattle.rdata.specs.RestKinds.{rest_form}
-use Rattle.rdata.specs.Types.{TypeShape}
-use Rattle.rdata.specs.declared.shape.Shape.{Shape}
-use Rattle.rdata.proofs.Joinings.{joined_once}
-use Rattle.rdata.proofs.Reading.{rest_once}
-use Rattle.rdata_fields.specs.Parsing.{SpellsFields}
+use Rattle.rdata.specs.ByType.{ReadsType, SpellsTypeData}
+use Rattle.rdata.proofs.OneSpelling.{type_once}
 use Rattle.rdata_fields.specs.declared.record_error.RecordError.{RecordError}
-use Rattle.rdata_fields.proofs.Refused.{fields_front}
-use Rattle.rdata_tokens.specs.declared.kind.DigitsKind.TheVariants.{Hex}
 use Rattle.rdata_values.specs.declared.types.RecordType.{RecordType}
 use Rattle.zone_generate.specs.Directives.{Generating, entry_text}
 use Rattle.zone_generate.specs.Ranges.{number_at}
@@ -44,53 +35,6 @@ use Rattle.c_calls.specs.Reports.{CopiesWhole, number_of}
 use Rattle.c_calls.specs.declared.outcome.Outcome.{Outcome}
 use Rattle.c_calls.proofs.KindsElse.{entry_else}
 use Rattle.c_calls.proofs.RoomSaid.{fills, room_alone, wrong_else}
-
--- ---- tokens spell data of a type in one way
-
-begins_so : (tokens : List TokenSeen) (octets : List ℕ) → SpellsGeneric tokens octets → BeginsGeneric tokens
-begins_so [] octets h = absurd h
-begins_so (mark ∷ []) octets h = absurd h
-begins_so (mark ∷ count ∷ digits) octets h = h.0
-
-generic_once : (tokens : List TokenSeen) (a b : List ℕ) → SpellsGeneric tokens a → SpellsGeneric tokens b → a ≡ b
-generic_once [] a b h k = absurd h
-generic_once (mark ∷ []) a b h k = absurd h
-generic_once (mark ∷ count ∷ digits) a b h k = joined_once Hex digits a b h.2 k.2
-
-module _ (origin : Option (List (List ℕ))) (tokens : List TokenSeen) where
-  shape_once : (shape : Shape) (a b : List ℕ) → SpellsData origin shape tokens a → SpellsData origin shape tokens b → a ≡ b
-  shape_once shape a b h k =
-      let same = fields_front origin shape.fields.now h.first h.last k.first k.last h.front k.front h.fields k.fields (sym h.tokens_are ∙ k.tokens_are) in
-      let behind : h.back ≡ k.back = rest_once origin shape.rest k.last h.back k.back (subst (λ l. (rest_form origin shape.rest).spells l h.back) same.1 h.rest) k.rest in
-      h.octets_are ∙ ap (λ o. o ++ h.back) same.2 ∙ ap (λ o. k.front ++ o) behind ∙ sym k.octets_are
-
-  -- all shapes of a type are spelled alike
-  same_spelled : (found : Option TypeShape) (a b : Shape) (octets : List ℕ) → HasShape found a → HasShape found b → SpellsData origin a tokens octets → SpellsData origin b tokens octets
-  same_spelled None a b octets h k own = absurd h
-  same_spelled (Some s) a b octets h k own = record {
-    first = own.first;
-    last = own.last;
-    front = own.front;
-    back = own.back;
-    tokens_are = own.tokens_are;
-    octets_are = own.octets_are;
-    fields = subst (λ fs. SpellsFields origin fs own.first own.front) (h.0 ∙ sym k.0) own.fields;
-    rest = subst (λ r. (rest_form origin r).spells own.last own.back) (h.1 ∙ sym k.1) own.rest;
-    lengths = subst (λ l. HasLength l octets) (h.2 ∙ sym k.2) own.lengths;
-  }
-
-  module _ (rtype : RecordType) where
-    abbrev OwnForm : List ℕ → Type 0
-    OwnForm octets = (BeginsGeneric tokens → ⊥) × ((shape : Shape) × HasShape (shape_of_code rtype) shape × SpellsData origin shape tokens octets)
-
-    forms_once : (a b : List ℕ) → SpellsGenericData (shape_of_code rtype) tokens a ⊎ OwnForm a → SpellsGenericData (shape_of_code rtype) tokens b ⊎ OwnForm b → a ≡ b
-    forms_once a b (inl h) (inl k) = generic_once tokens a b h.0 k.0
-    forms_once a b (inl h) (inr k) = absurd (k.0 (begins_so tokens a h.0))
-    forms_once a b (inr h) (inl k) = absurd (h.0 (begins_so tokens b k.0))
-    forms_once a b (inr h) (inr k) = shape_once k.1.0 a b (same_spelled (shape_of_code rtype) h.1.0 k.1.0 a h.1.1 k.1.1 h.1.2) k.1.2
-
-    pub type_once : (a b : List ℕ) → SpellsTypeData origin rtype tokens a → SpellsTypeData origin rtype tokens b → a ≡ b
-    type_once a b h k = forms_once a b h.1 k.1
 
 -- ---- the tokens of the first entry that has some
 
@@ -168,7 +112,7 @@ module _ (rtype : RecordType) (origin : Option (List (List ℕ))) (text : List �
 
 -- ---- data is read
 
-name_else : (e : NameError) → 2 ≡ number_of (refusal_of_name e) → ⊥
+pub name_else : (e : NameError) → 2 ≡ number_of (refusal_of_name e) → ⊥
 name_else (NoLabel e) h = cc
 name_else CompressedName h = cc
 name_else LongName h = cc
@@ -184,25 +128,25 @@ text_else None e old new outcome h = entry_else e.rtype e.kind (sym (room_alone 
 pub error_else : (e : RecordError) (old new : List ℕ) (outcome : Outcome) → ReportsError e old 2 new outcome → ⊥
 error_else e old new outcome h = text_else (syntax_of e.kind) e old new outcome h
 
+no_empty_name : (labels : List (List ℕ)) → MakesName [] (Ok labels) → ⊥
+no_empty_name labels h = elim h [
+  | inl long ↦ let no = long.1 in cc
+  | inr made ↦ (let none = ap length made.1.2.spelled ∙ length-append (wire made.1.0) made.1.1 in let one = ap length made.1.3.0 in absurd (omega (arith, none, one)))
+]
+
+pub origin_once : (origin : List ℕ) (a b : Option (List (List ℕ))) → IsOriginOf origin a → IsOriginOf origin b → a ≡ b
+origin_once origin None None h k = refl
+origin_once origin None (Some m) h k = absurd (no_empty_name m (subst (λ o. MakesName o (Ok m)) h k))
+origin_once origin (Some l) None h k = absurd (no_empty_name l (subst (λ o. MakesName o (Ok l)) k h))
+origin_once origin (Some l) (Some m) h k = let same : Ok l ≡ Ok m = name_same origin (Ok l) (Ok m) h k in cc
+
 module _ (rtype : RecordType) (text origin : List ℕ) where
   abbrev IsRead : List ℕ → Type 0
   IsRead octets = (known : Option (List (List ℕ))) × IsOriginOf origin known × ReadsDataText (exactly 65535) rtype known text (Ok octets)
 
-  no_empty_name : (labels : List (List ℕ)) → MakesName [] (Ok labels) → ⊥
-  no_empty_name labels h = elim h [
-    | inl long ↦ let no = long.1 in cc
-    | inr made ↦ (let none = ap length made.1.2.spelled ∙ length-append (wire made.1.0) made.1.1 in let one = ap length made.1.3.0 in absurd (omega (arith, none, one)))
-  ]
-
-  origin_once : (a b : Option (List (List ℕ))) → IsOriginOf origin a → IsOriginOf origin b → a ≡ b
-  origin_once None None h k = refl
-  origin_once None (Some m) h k = absurd (no_empty_name m (subst (λ o. MakesName o (Ok m)) h k))
-  origin_once (Some l) None h k = absurd (no_empty_name l (subst (λ o. MakesName o (Ok l)) k h))
-  origin_once (Some l) (Some m) h k = let same : Ok l ≡ Ok m = name_same origin (Ok l) (Ok m) h k in cc
-
   read_once : (a b : List ℕ) → IsRead a → IsRead b → a ≡ b
   read_once a b h k =
-      let same = origin_once h.0 k.0 h.1 k.1 in
+      let same = origin_once origin h.0 k.0 h.1 k.1 in
       spelled_once rtype k.0 text a b (text_spells rtype k.0 text a (subst (λ o. ReadsDataText (exactly 65535) rtype o text (Ok a)) same h.2)) (text_spells rtype k.0 text b k.2)
 
   read_copied : (old new : List ℕ) (outcome : Outcome) (known : Option (List (List ℕ))) (answer : DataAnswer) → IsOriginOf origin known → ReadsDataText (exactly 65535) rtype known text answer → ReportsData answer old 2 new outcome

@@ -59,10 +59,10 @@ included room before after new None r = tt
 included room before after new (Some (Err e)) r = tt
 included room before after new (Some (Ok Empty)) r = tt
 included room before after new (Some (Ok Directive)) r = tt
-included room before after new (Some (Ok (Generate at))) r = tt
-included room before after new (Some (Ok (RecordRead at ttl class rtype))) r = tt
-included room before after new (Some (Ok (Include file has_origin))) r =
-    let h = files_are_appended room r.middle after [] new file has_origin r.last in
+included room before after new (Some (Ok (Generate at end))) r = tt
+included room before after new (Some (Ok (RecordRead at data_at end ttl class rtype))) r = tt
+included room before after new (Some (Ok (Include at end file has_origin))) r =
+    let h = files_are_appended room r.middle after [] new at end file has_origin r.last in
     subst (IsIncluded file has_origin) (sym h.1) h.2
 
 -- the origin of a file is the name that its octets are

@@ -23,5 +23,6 @@ mod RoomSaid
 mod Rooms
 mod Row
 mod ToldTexts
+mod ValueRooms
 mod Written
 mod ZoneReads

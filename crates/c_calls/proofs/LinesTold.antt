@@ -14,17 +14,17 @@ use Rattle.c_calls.proofs.Rooms.{IsNoError, any_room}
 
 module _ (head : RecordNumbers) where
   record_told : (read : ParsedEntry) (reader : RecordReader) (octets : List ℕ) (call : RecordCall) → head_in read ≡ Some head → ReportsFound 0 reader octets reader.state.owner head call → ReportsResult (Some (Ok read)) reader octets call
-  record_told (RecordRead at ttl class rtype) reader octets call is h =
-      let same : head_with at (returned_ttl ttl) class rtype ≡ head = cc in subst (λ x. ReportsFound 0 reader octets reader.state.owner x call) (sym same) h
-  record_told (Include file has_origin) reader octets call is h = cc
-  record_told (Generate at) reader octets call is h = cc
+  record_told (RecordRead at data_at end ttl class rtype) reader octets call is h =
+      let same : head_with at data_at end (returned_ttl ttl) class rtype ≡ head = cc in subst (λ x. ReportsFound 0 reader octets reader.state.owner x call) (sym same) h
+  record_told (Include at end file has_origin) reader octets call is h = cc
+  record_told (Generate at end) reader octets call is h = cc
   record_told Empty reader octets call is h = cc
   record_told Directive reader octets call is h = cc
 
   no_directive : (read : ParsedEntry) → head_in read ≡ Some head → read ≡ Directive → ⊥
-  no_directive (RecordRead at ttl class rtype) is e = cc
-  no_directive (Include file has_origin) is e = cc
-  no_directive (Generate at) is e = cc
+  no_directive (RecordRead at data_at end ttl class rtype) is e = cc
+  no_directive (Include at end file has_origin) is e = cc
+  no_directive (Generate at end) is e = cc
   no_directive Empty is e = cc
   no_directive Directive is e = cc
 

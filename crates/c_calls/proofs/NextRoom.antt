@@ -41,7 +41,8 @@ use Rattle.c_calls.specs.Reasons.{ReportsError}
 use Rattle.c_calls.specs.Records.{Memory, RecordCall, ReportsFound, ReportsResult}
 use Rattle.c_calls.specs.declared.kept.Zone.{Zone}
 use Rattle.c_calls.specs.declared.outcome.Outcome.{Outcome}
-use Rattle.c_calls.proofs.DataRoom.{ends_passed, error_else, past_ends, type_once}
+use Rattle.rdata.proofs.OneSpelling.{type_once}
+use Rattle.c_calls.proofs.DataRoom.{ends_passed, error_else, past_ends}
 use Rattle.c_calls.proofs.RecordCalls.{SameReader, entry_of_other, state_once}
 use Rattle.c_calls.proofs.Rooms.{all_before}
 use Rattle.c_calls.proofs.RoomSaid.{enough_reported}
@@ -51,9 +52,9 @@ room = exactly 65535
 
 -- the number of octets that are returned for an entry
 abbrev needed : ParsedEntry → List ℕ → ℕ
-needed (RecordRead at ttl class rtype) octets = length octets
-needed (Include file has_origin) octets = file
-needed (Generate at) octets = 0
+needed (RecordRead at data_at end ttl class rtype) octets = length octets
+needed (Include at end file has_origin) octets = file
+needed (Generate at end) octets = 0
 needed Empty octets = 0
 needed Directive octets = 0
 
@@ -72,26 +73,26 @@ module _ (before : State) (end : ℕ) (tokens : List TokenSeen) (x y : ParsedEnt
 
   -- a record of these octets
   abbrev IsRecord : ParsedEntry → Type 0
-  IsRecord e = (at : ℕ) × (ttl : RecordTtl) × (class : Class) × (rtype : RecordType) × (e ≡ RecordRead at ttl class rtype)
+  IsRecord e = (at : ℕ) × (data_at : ℕ) × (last : ℕ) × (ttl : RecordTtl) × (class : Class) × (rtype : RecordType) × (e ≡ RecordRead at data_at last ttl class rtype)
 
-  record_so : (e : ParsedEntry) (at : ℕ) (w : RecordHeader) (ttl : Option RecordTtl) → Ok e ≡ record_with before at w ttl → IsRecord e
-  record_so e at w None h = cc
-  record_so e at w (Some ttl) h = (_, _, _, _, same)
+  record_so : (e : ParsedEntry) (at data_at : ℕ) (w : RecordHeader) (ttl : Option RecordTtl) → Ok e ≡ record_with before at data_at end w ttl → IsRecord e
+  record_so e at data_at w None h = cc
+  record_so e at data_at w (Some ttl) h = (_, _, _, _, _, _, same)
     where
-      same : e ≡ RecordRead at ttl (unwrap_or w.class before.class) w.rtype
+      same : e ≡ RecordRead at data_at end ttl (unwrap_or w.class before.class) w.rtype
       same = cc h
 
   records_alike : IsRecord x → IsRecord y → a ≡ b → Alike
-  records_alike h k same = alike_as x y _ _ a b h.4 k.4 (record { directive = λ d. cc; needs = ap length same })
+  records_alike h k same = alike_as x y _ _ a b h.6 k.6 (record { directive = λ d. cc; needs = ap length same })
 
   module _ (at : ℕ) (w : RecordHeader) (words left rest : List TokenSeen) where
-    data_alike : (r s : Result (Unit {0}) RecordError) → ReadsType (known_name before.origin) room w.rtype end words [] r left a → ReadsDataAfterHeader before at w [] r a (Ok x)
-        → ReadsType (known_name before.origin) room w.rtype end words [] s rest b → ReadsDataAfterHeader before at w [] s b (Ok y) → Alike
+    data_alike : (r s : Result (Unit {0}) RecordError) → ReadsType (known_name before.origin) room w.rtype end words [] r left a → ReadsDataAfterHeader before at (next_place words end) end w [] r a (Ok x)
+        → ReadsType (known_name before.origin) room w.rtype end words [] s rest b → ReadsDataAfterHeader before at (next_place words end) end w [] s b (Ok y) → Alike
     data_alike (Err e) s h is k same = cc
     data_alike (Ok u) (Err e) h is k same = cc
     data_alike (Ok u) (Ok v) h is k same =
         let octets = type_once (known_name before.origin) words w.rtype h.1.0 k.1.0 h.1.1 k.1.1 in
-        records_alike (record_so x at w _ is.2.2) (record_so y at w _ same.2.2) (h.1.2 ∙ octets ∙ sym k.1.2)
+        records_alike (record_so x at (next_place words end) w _ is.2.2) (record_so y at (next_place words end) w _ same.2.2) (h.1.2 ∙ octets ∙ sym k.1.2)
 
   header_alike : (at : ℕ) (first last : Result (Unit {0}) RecordError) (words : Result RecordHeader HeaderError) (left : List TokenSeen) → ReadsAfterHeader before room at end first words left [] (Ok x) a
       → ReadsAfterHeader before room at end last words left [] (Ok y) b → Alike
@@ -112,7 +113,7 @@ module _ (before : State) (end : ℕ) (tokens : List TokenSeen) (x y : ParsedEnt
   meaning_alike (says_origin t) one other h k = both Directive (λ is. refl) h.0.0 k.0.0 refl
   meaning_alike (says_default_ttl r) one other h k = ttl_alike r h.0 k.0
   meaning_alike (says_include file token) one other h k = alike_as x y _ _ a b h.1 k.1 (record { directive = λ d. cc; needs = refl })
-  meaning_alike says_generate one other h k = let is = h.0 in let same = k.0 in both (Generate (next_place tokens end)) (λ is. refl) (cc is) (cc same) refl
+  meaning_alike says_generate one other h k = let is = h.0 in let same = k.0 in both (Generate (next_place tokens end) end) (λ is. refl) (cc is) (cc same) refl
   meaning_alike (says_record token words left) one other h k = header_alike _ h.0 k.0 words left h.2 k.2
   meaning_alike (says_refused e) one other h k = cc
 
@@ -299,11 +300,11 @@ module _ (text : List ℕ) (zone : Zone) where
     result_lacks : (given : Option (Result ParsedEntry RecordError)) (reader : RecordReader) (octets : List ℕ) → ReportsResult given reader octets call → Returned given octets
     result_lacks None reader octets t = let no = t.status_is in absurd (omega (arith, no, lacking))
     result_lacks (Some (Err e)) reader octets t = absurd (error_else e call.before.octets call.after.octets call.outcome (subst (λ s. ReportsError e call.before.octets s call.after.octets call.outcome) lacking t.reason))
-    result_lacks (Some (Ok (RecordRead at ttl class rtype))) reader octets t =
-        record { result = RecordRead at ttl class rtype; is = refl; lacks = found_lacks 0 reader octets reader.state.owner _ (λ e. omega (arith, e)) t }
-    result_lacks (Some (Ok (Include file has_origin))) reader octets t =
-        record { result = Include file has_origin; is = refl; lacks = subst Lacks (sym t.0.count) (found_lacks 26 reader t.0.name _ _ (λ e. omega (arith, e)) t.1) }
-    result_lacks (Some (Ok (Generate at))) reader octets t = record { result = Generate at; is = refl; lacks = found_lacks 36 reader [] _ _ (λ e. omega (arith, e)) t }
+    result_lacks (Some (Ok (RecordRead at data_at end ttl class rtype))) reader octets t =
+        record { result = RecordRead at data_at end ttl class rtype; is = refl; lacks = found_lacks 0 reader octets reader.state.owner _ (λ e. omega (arith, e)) t }
+    result_lacks (Some (Ok (Include at end file has_origin))) reader octets t =
+        record { result = Include at end file has_origin; is = refl; lacks = subst Lacks (sym t.0.count) (found_lacks 26 reader t.0.name _ _ (λ e. omega (arith, e)) t.1) }
+    result_lacks (Some (Ok (Generate at end))) reader octets t = record { result = Generate at end; is = refl; lacks = found_lacks 36 reader [] _ _ (λ e. omega (arith, e)) t }
     result_lacks (Some (Ok Empty)) reader octets t = absurd t
     result_lacks (Some (Ok Directive)) reader octets t = absurd t
 

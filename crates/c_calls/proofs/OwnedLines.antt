@@ -60,19 +60,19 @@ module _ (before : State) (unset : before.owner ≡ Unset) (owner : NameState) w
 
   -- ---- the entry
 
-  module _ (room : Room) (old new : List ℕ) (at : ℕ) (ttl : RecordTtl) (class : Class) (rtype : RecordType) where
+  module _ (room : Room) (old new : List ℕ) (at data_at last : ℕ) (ttl : RecordTtl) (class : Class) (rtype : RecordType) where
     abbrev result : Result ParsedEntry RecordError
-    result = Ok (RecordRead at ttl class rtype)
+    result = Ok (RecordRead at data_at last ttl class rtype)
 
-    data_so : (a : ℕ) (w : RecordHeader) (r : Result (Unit {0}) RecordError) → ReadsDataAfterHeader before a w old r new result → ReadsDataAfterHeader with_owner a w old r new result
-    data_so a w (Ok u) h = h
-    data_so a w (Err e) h = h
+    data_so : (a d end : ℕ) (w : RecordHeader) (r : Result (Unit {0}) RecordError) → ReadsDataAfterHeader before a d end w old r new result → ReadsDataAfterHeader with_owner a d end w old r new result
+    data_so a d end w (Ok u) h = h
+    data_so a d end w (Err e) h = h
 
     after_so : (a end : ℕ) (first : Result (Unit {0}) RecordError) (words : Result RecordHeader HeaderError) (left : List TokenSeen) → ReadsAfterHeader before room a end first words left old result new
         → ReadsAfterHeader with_owner room a end first words left old result new
     after_so a end (Err e) words left h = h
     after_so a end (Ok u) (Err e) left h = h
-    after_so a end (Ok u) (Ok w) left h = (h.0, h.1, h.2, data_so a w h.0 h.3)
+    after_so a end (Ok u) (Ok w) left h = (h.0, h.1, h.2, data_so a (next_place left end) end w h.0 h.3)
 
     named_so : (a : ℕ) (t : TokenSeen) (first : Result (Unit {0}) RecordError) (known : NameState) → ReadsOwner before a (Some t) first known → ReadsOwner with_owner a (Some t) first known
     named_so a t (Ok u) known h = h
@@ -154,9 +154,9 @@ module _ (before : State) (unset : before.owner ≡ Unset) (owner : NameState) w
   -- a line that is a record
   owned : (head : RecordNumbers) (read : ParsedEntry) (text : List ℕ) (place : ℕ) (line : LineRead) (after : State) (new : List ℕ) → line.read ≡ Ok read → head_in read ≡ Some head
       → ReadsLine (exactly 512) text place before [] line after new → ReadsLine (exactly 512) text place with_owner [] line after new
-  owned head (RecordRead at ttl class rtype) text place line after new is numbers r = line_so (exactly 512) [] new at ttl class rtype text place line after is r
-  owned head (Include file has_origin) text place line after new is numbers r = cc
-  owned head (Generate at) text place line after new is numbers r = cc
+  owned head (RecordRead at data_at last ttl class rtype) text place line after new is numbers r = line_so (exactly 512) [] new at data_at last ttl class rtype text place line after is r
+  owned head (Include at end file has_origin) text place line after new is numbers r = cc
+  owned head (Generate at end) text place line after new is numbers r = cc
   owned head Empty text place line after new is numbers r = cc
   owned head Directive text place line after new is numbers r = cc
 

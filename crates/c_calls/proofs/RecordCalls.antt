@@ -308,17 +308,17 @@ module _ (after : RecordReader) (octets : List ℕ) (call : RecordCall) where
 
   some_told : (given : Result ParsedEntry RecordError) → ReportsResult (Some given) after octets call → call.status ≢ 1
   some_told (Err e) t = error_some (syntax_of e.kind) e _ _ _ _ t.reason
-  some_told (Ok (RecordRead at ttl class rtype)) t = found_some 0 _ _ _ (λ e. cc) t
-  some_told (Ok (Include file has_origin)) t = found_some 26 _ _ _ (λ e. cc) t.1
-  some_told (Ok (Generate at)) t = found_some 36 _ _ _ (λ e. cc) t
+  some_told (Ok (RecordRead at data_at end ttl class rtype)) t = found_some 0 _ _ _ (λ e. cc) t
+  some_told (Ok (Include at end file has_origin)) t = found_some 26 _ _ _ (λ e. cc) t.1
+  some_told (Ok (Generate at end)) t = found_some 36 _ _ _ (λ e. cc) t
   some_told (Ok Empty) t = absurd t
   some_told (Ok Directive) t = absurd t
 
   some_keeps : (given : Result ParsedEntry RecordError) → call.status ≢ 2 → ReportsResult (Some given) after octets call → KeepsReader after call.before.zone call.after.zone
   some_keeps (Err e) fits t = t.keeps
-  some_keeps (Ok (RecordRead at ttl class rtype)) fits t = found_keeps 0 _ _ _ fits t
-  some_keeps (Ok (Include file has_origin)) fits t = found_keeps 26 _ _ _ fits t.1
-  some_keeps (Ok (Generate at)) fits t = found_keeps 36 _ _ _ fits t
+  some_keeps (Ok (RecordRead at data_at end ttl class rtype)) fits t = found_keeps 0 _ _ _ fits t
+  some_keeps (Ok (Include at end file has_origin)) fits t = found_keeps 26 _ _ _ fits t.1
+  some_keeps (Ok (Generate at end)) fits t = found_keeps 36 _ _ _ fits t
   some_keeps (Ok Empty) fits t = absurd t
   some_keeps (Ok Directive) fits t = absurd t
 

@@ -150,7 +150,7 @@ octets_else LongName h = cc
 octets_else TrailingData h = cc
 octets_else NameCutShort h = cc
 
-wire_else : (e : WireError) → 2 ≡ number_of (fault_of_wire e).refusal → ⊥
+pub wire_else : (e : WireError) → 2 ≡ number_of (fault_of_wire e).refusal → ⊥
 wire_else NoDataType h = cc
 wire_else LongData h = cc
 wire_else NotOfType h = cc

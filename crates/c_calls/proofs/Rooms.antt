@@ -25,6 +25,7 @@ use Rattle.rdata_values.specs.declared.types.RecordType.{RecordType}
 use Rattle.zone_reader.specs.EntryMeanings.{EntryMeaning, says_nothing, says_origin, says_default_ttl, says_include, says_generate, says_record, says_refused}
 use Rattle.zone_reader.specs.declared.header.RecordHeader.{RecordHeader}
 use Rattle.zone_reader.specs.declared.header.HeaderError.{HeaderError}
+use Rattle.rdata_fields.specs.Source.{next_place}
 use Rattle.zone_reader.specs.EntryReading.{ReadsDataAfterHeader, ReadsInclude, ReadsMeaning, ReadsRecordData, ReadsAfterHeader, ReadsZoneEntry}
 use Rattle.zone_reader.specs.Past.{known_name}
 use Rattle.zone_reader.specs.Records.{AreSuccessiveResults, EntryResult, IsDirectiveResult, ReadsBegun, ReadsNextEntry, ReadsNextRecord, IsAfterEntry, given_next, result_of_entry, none_given}
@@ -126,7 +127,7 @@ module _ (one other : Room) where
   refused_so origin rtype end tokens old r left new fits (inl h) = inl h
   refused_so origin rtype end tokens old r left new fits (inr (inl h)) = inr (inl (h.0, h.1, generic_so (shape_of_code rtype) end tokens old r left new fits h.2))
   refused_so origin rtype end tokens old r left new fits (inr (inr (inl h))) = inr (inr (inl h))
-  refused_so origin rtype end tokens old r left new fits (inr (inr (inr h))) = inr (inr (inr (h.0, (h.1.0, h.1.1, shaped_so origin h.1.0 end tokens old r left new fits h.1.2))))
+  refused_so origin rtype end tokens old r left new fits (inr (inr (inr h))) = inr (inr (inr (h.0, (h.1.0, h.1.1, shaped_so origin h.1.0 end tokens old r left new fits h.1.2), h.2)))
 
   pub type_so : (origin : Option (List (List ℕ))) (rtype : RecordType) (end : ℕ) (tokens : List TokenSeen) (old : List ℕ) (read : Result (Unit {0}) RecordError) (left : List TokenSeen) (new : List ℕ) → Fits read
       → ReadsType origin one rtype end tokens old read left new → ReadsType origin other rtype end tokens old read left new
@@ -138,7 +139,7 @@ module _ (one other : Room) where
   -- ---- entries
 
   data_so : (before : State) (at end : ℕ) (w : RecordHeader) (tokens : List TokenSeen) (old new : List ℕ) (result : Result ParsedEntry RecordError) (r : Result (Unit {0}) RecordError) (left : List TokenSeen) → Fits result
-      → ReadsType (known_name before.origin) one w.rtype end tokens old r left new → ReadsDataAfterHeader before at w old r new result → ReadsRecordData before other at end w tokens old result new
+      → ReadsType (known_name before.origin) one w.rtype end tokens old r left new → ReadsDataAfterHeader before at (next_place tokens end) end w old r new result → ReadsRecordData before other at end w tokens old result new
   data_so before at end w tokens old new result (Ok u) left fits reads behind = (Ok u, left, reads, behind)
   data_so before at end w tokens old new result (Err r) left fits reads behind =
       (Err r, left, type_so (known_name before.origin) w.rtype end tokens old (Err r) left new (λ x is. let same : r ≡ x = cc in λ k. fits r behind (ap (λ (y : RecordError). y.kind) same ∙ k)) reads, behind)
@@ -149,18 +150,18 @@ module _ (one other : Room) where
   words_so before at end (Ok u) (Err r) tokens old new result fits h = h
   words_so before at end (Ok u) (Ok w) tokens old new result fits h = data_so before at end w tokens old new result h.0 h.1 fits h.2 h.3
 
-  include_so : (origin : Option (List (List ℕ))) (at : ℕ) (file : List ℕ) (token : Option TokenSeen) (old new : List ℕ) (result : Result ParsedEntry RecordError) → Fits result → ReadsInclude origin one at file token old result new
-      → ReadsInclude origin other at file token old result new
-  include_so origin at file token old new (Ok e) fits h = h
-  include_so origin at file token old new (Err r) fits (inl h) = inl h
-  include_so origin at file token old new (Err r) fits (inr h) = absurd (error_fits {X = ParsedEntry} r fits (ap (λ (x : RecordError). x.kind) h.2))
+  include_so : (origin : Option (List (List ℕ))) (begin end at : ℕ) (file : List ℕ) (token : Option TokenSeen) (old new : List ℕ) (result : Result ParsedEntry RecordError) → Fits result → ReadsInclude origin one begin end at file token old result new
+      → ReadsInclude origin other begin end at file token old result new
+  include_so origin begin end at file token old new (Ok e) fits h = h
+  include_so origin begin end at file token old new (Err r) fits (inl h) = inl h
+  include_so origin begin end at file token old new (Err r) fits (inr h) = absurd (error_fits {X = ParsedEntry} r fits (ap (λ (x : RecordError). x.kind) h.2))
 
   meaning_so : (before : State) (end : ℕ) (tokens : List TokenSeen) (m : EntryMeaning) (old new : List ℕ) (result : Result ParsedEntry RecordError) (owner : NameState) → Fits result
       → ReadsMeaning before one end tokens m old result owner new → ReadsMeaning before other end tokens m old result owner new
   meaning_so before end tokens says_nothing old new result owner fits h = h
   meaning_so before end tokens (says_origin t) old new result owner fits h = h
   meaning_so before end tokens (says_default_ttl r) old new result owner fits h = h
-  meaning_so before end tokens (says_include file token) old new result owner fits h = include_so (known_name before.origin) _ file token old new result fits h
+  meaning_so before end tokens (says_include file token) old new result owner fits h = include_so (known_name before.origin) _ _ _ file token old new result fits h
   meaning_so before end tokens says_generate old new result owner fits h = h
   meaning_so before end tokens (says_record token words left) old new result owner fits h = (h.0, h.1, words_so before _ end h.0 words left old new result fits h.2)
   meaning_so before end tokens (says_refused r) old new result owner fits h = h

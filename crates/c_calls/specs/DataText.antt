@@ -21,6 +21,7 @@ use Rattle.dns_lexer.specs.EntryTokens.{EndIs, IsSeen, PartSeen, TokenIs, TokenS
 use Rattle.dns_lexer.specs.declared.pieces.Fault.{Fault as TextFault}
 use Rattle.dns_wire.specs.FromOctets.{MakesName}
 use Rattle.dns_wire.specs.declared.error.NameError.{NameError}
+use Rattle.dns_zone.specs.Layout.{Step}
 use Rattle.dns_zone.specs.Printed.{printed}
 use Rattle.dns_zone.specs.declared.zonefile_fmt.DisplayKind.TheVariants.{Simple}
 use Rattle.c_calls.specs.Capacity.{InCapacity}
@@ -32,13 +33,17 @@ use Rattle.c_calls.specs.declared.outcome.Outcome.{Outcome}
 use Rattle.c_calls.specs.declared.outcome.Refusal.TheVariants.{BadData, TooLong}
 use Rattle.c_calls.specs.declared.reading.Rejected.{Rejected}
 
--- the text of data: its tokens on one line
-abbrev pub data_text : TypeData → List ℕ
-data_text d = printed Simple (data_document d)
+-- the text of a document on one line
+abbrev pub line_text : List Step → List ℕ
+line_text document = printed Simple document
 
--- the text of data is written piece by piece
-abbrev pub PrintsOn : {S : Type 0} → (S → List ℕ → S → Type 0) → TypeData → S → S → Type 0
-PrintsOn gives d old new = WritesInCalls gives old (data_text d) new
+-- that of data
+abbrev pub data_text : TypeData → List ℕ
+data_text d = line_text (data_document d)
+
+-- the text of a document is written piece by piece
+abbrev pub PrintsOn : {S : Type 0} → (S → List ℕ → S → Type 0) → List Step → S → S → Type 0
+PrintsOn gives document old new = WritesInCalls gives old (line_text document) new
 
 -- octets are written at an offset; the octets before and after them are unchanged
 pub record PutsAt (octets : List ℕ) (at : ℕ) (old new : List ℕ) : Type 0 where
@@ -52,6 +57,10 @@ abbrev pub ReportsText : List ℕ → List ℕ → ℕ → List ℕ → Outcome 
 ReportsText text old status new outcome =
     CopiesWhole text old status new outcome
     ⊎ (ReportsFault (at_start TooLong) status outcome × (drop (length text) new ≡ drop (length text) old))
+
+-- the text of a document on one line is returned
+abbrev pub ReportsDocument : List Step → List ℕ → ℕ → List ℕ → Outcome → Type 0
+ReportsDocument document old status new outcome = ReportsText (line_text document) old status new outcome
 
 -- the status and the offset if octets are not data of a type
 abbrev pub fault_of_wire : WireError → Fault

@@ -8,6 +8,8 @@ use Rattle.c_calls.specs.DataText.{PrintsData, ReportsCanonical, ReportsReadData
 use Rattle.c_calls.specs.Entries.{NextEntry}
 use Rattle.c_calls.specs.Generates.{GeneratesEntry}
 use Rattle.c_calls.specs.Names.{NameAnswer, PrintsName, ReadsNameText, ReportsName}
+use Rattle.c_calls.specs.NameWords.{ReportsWordName}
+use Rattle.c_calls.specs.RecordPrinting.{PrintsRecord}
 use Rattle.c_calls.specs.Records.{NextRecord, memory}
 use Rattle.c_calls.specs.Reports.{CopiesWhole, number_of}
 use Rattle.c_calls.specs.Strings.{PrintsString, ReportsOctetString, ReportsString}
@@ -61,6 +63,8 @@ pub record CallsReportEnoughRoom : Type 0 where
   pub prints_data : (rtype : RecordType) (octets : List ℕ) → FillsOrKeeps (PrintsData rtype octets)
   pub canonical : (rtype : RecordType) (octets : List ℕ) → FillsOrKeeps (ReportsCanonical rtype octets)
   pub reads_data : (rtype : RecordType) (text origin : List ℕ) → FillsOrKeeps (ReportsReadData rtype text origin)
+  pub reads_word : (text origin : List ℕ) → FillsOrKeeps (ReportsWordName text origin)
+  pub prints_record : (found : Record) (octets : List ℕ) → FillsOrKeeps (PrintsRecord found octets)
   pub generates : (directive : List ℕ) (index : ℕ) → FillsOrKeeps (GenerateCalls directive index)
   pub next_record : (text : List ℕ) (zone : Zone) → FillsOrKeeps (NextRecordCalls text zone)
   pub next_entry : (text : List ℕ) (cursor : Cursor) → AreOctets text → ReportsEnoughRoom (NextEntryCalls text cursor)

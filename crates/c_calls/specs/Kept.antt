@@ -1,5 +1,5 @@
 -- The state of a zone file between two calls.
-use Rattle.std.specs.Prelude.{◌≡◌, ◌≢◌, ◌⊎◌, ◌<◌, ◌≤◌, ◌==◌, if◌then◌else◌, ℕ, Bool, true, false, List, [], length, take, drop, Option, Some, None, Ok, Err}
+use Rattle.std.specs.Prelude.{◌≡◌, ◌≢◌, ◌⊎◌, ◌<◌, ◌≤◌, ◌==◌, if◌then◌else◌, ℕ, Bool, true, false, List, [], length, take, drop, replicate, Option, Some, None, Ok, Err}
 use Rattle.dns_wire.specs.FromOctets.{MakesName}
 use Rattle.dns_wire.specs.declared.error.NameError.{NameError}
 use Rattle.zone_reader.specs.declared.known.NameState.{NameState}
@@ -73,6 +73,13 @@ pub record KeepsState (state : State) (at : ℕ) (old new : Zone) : Type 0 where
   pub last_ttl : KeepsTtl state.last_ttl new.has_last_ttl new.last_ttl
   pub class : state.class ≡ new.class_code
   pub at_is : new.at ≡ at
+
+-- no name, with no octets; and the state at the start of a text: the class IN, and nothing else
+abbrev pub no_kept_name : KeptName
+no_kept_name = record { length = 0; is_refused = 0; octets = replicate 255 0 }
+
+abbrev pub first_zone : Zone
+first_zone = record { class_code = 1; has_default_ttl = 0; has_last_ttl = 0; default_ttl = 0; last_ttl = 0; at = 0; origin = no_kept_name; owner = no_kept_name }
 
 -- the origin in octets: no octets mean no origin, and others are the octets of a name
 abbrev pub IsOriginOf : List ℕ → Option (List (List ℕ)) → Type 0

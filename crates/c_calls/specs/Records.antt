@@ -48,7 +48,7 @@ KeepsReader reader old new = KeepsState reader.state reader.source.began old new
 
 -- the numbers of a record
 abbrev pub head_of : Record → RecordNumbers
-head_of found = record { place = found.place; ttl = found.ttl; class = found.class_code; rtype = found.type_code }
+head_of found = record { place = found.place; data_at = found.«data»; end = found.end; ttl = found.ttl; class = found.class_code; rtype = found.type_code }
 
 -- the octets are returned with a status, a name and numbers, and the zone advances; if they don't fit, nothing was written
 pub record ReportsFound (status : ℕ) (reader : RecordReader) (octets : List ℕ) (name : NameState) (head : RecordNumbers) (call : RecordCall) : Type 0 where
@@ -72,12 +72,12 @@ pub record ReportsEnd (reader : RecordReader) (call : RecordCall) : Type 0 where
   pub found_stays : call.after.found ≡ call.before.found
   pub octets_stay : call.after.octets ≡ call.before.octets
 
--- the numbers of a record, and those of a file to include
-abbrev pub head_with : ℕ → ℕ → Class → RecordType → RecordNumbers
-head_with at ttl class rtype = record { place = at; ttl = ttl; class = class; rtype = rtype }
+-- the numbers of a record; and those of a directive, which has neither data nor a TTL, a class and a type
+abbrev pub head_with : ℕ → ℕ → ℕ → ℕ → Class → RecordType → RecordNumbers
+head_with at data_at end ttl class rtype = record { place = at; data_at = data_at; end = end; ttl = ttl; class = class; rtype = rtype }
 
-abbrev pub no_head : RecordNumbers
-no_head = head_with 0 0 0 0
+abbrev pub directive_head : ℕ → ℕ → RecordNumbers
+directive_head at end = head_with at end end 0 0 0
 
 -- the TTL of a record as it is returned: from 2^31 on it is 0 (RFC 2181 section 8)
 abbrev pub returned_ttl : RecordTtl → ℕ
@@ -85,9 +85,9 @@ returned_ttl ttl = ttl_of_seconds (seconds_of ttl)
 
 -- the numbers of an entry, if it is a record
 abbrev pub head_in : ParsedEntry → Option RecordNumbers
-head_in (RecordRead at ttl class rtype) = Some (head_with at (returned_ttl ttl) class rtype)
-head_in (Include file has_origin) = None
-head_in (Generate at) = None
+head_in (RecordRead at data_at end ttl class rtype) = Some (head_with at data_at end (returned_ttl ttl) class rtype)
+head_in (Include at end file has_origin) = None
+head_in (Generate at end) = None
 head_in Empty = None
 head_in Directive = None
 
@@ -101,16 +101,16 @@ ReportsLine state at octets head call = (reader : RecordReader) → reader.state
 
 -- for a file to include, the octets are those of its name, and after them those of its origin
 abbrev pub HasIncluded : Option (Result ParsedEntry RecordError) → List ℕ → Type 0
-HasIncluded (Some (Ok (Include file has_origin))) octets = IsIncluded file has_origin octets
+HasIncluded (Some (Ok (Include at end file has_origin))) octets = IsIncluded file has_origin octets
 HasIncluded _ octets = ⊤
 
--- the report of the reader's result: a record with its owner; a file to include; a `$GENERATE` directive, at its offset; an error; or that nothing is left
+-- the report of the reader's result: a record with its owner; a file to include, or a `$GENERATE` directive, with the offsets of the directive; an error; or that nothing is left
 abbrev pub ReportsResult : Option (Result ParsedEntry RecordError) → RecordReader → List ℕ → RecordCall → Type 0
 ReportsResult None reader octets call = ReportsEnd reader call
 ReportsResult (Some (Err e)) reader octets call = ReportsRejected reader e call
-ReportsResult (Some (Ok (RecordRead at ttl class rtype))) reader octets call = ReportsFound 0 reader octets reader.state.owner (head_with at (returned_ttl ttl) class rtype) call
-ReportsResult (Some (Ok (Include file has_origin))) reader octets call = (read : IsIncluded file has_origin octets) × ReportsFound 26 reader read.name (optional_origin read.origin) no_head call
-ReportsResult (Some (Ok (Generate at))) reader octets call = ReportsFound 36 reader [] Unset (head_with at 0 0 0) call
+ReportsResult (Some (Ok (RecordRead at data_at end ttl class rtype))) reader octets call = ReportsFound 0 reader octets reader.state.owner (head_with at data_at end (returned_ttl ttl) class rtype) call
+ReportsResult (Some (Ok (Include at end file has_origin))) reader octets call = (read : IsIncluded file has_origin octets) × ReportsFound 26 reader read.name (optional_origin read.origin) (directive_head at end) call
+ReportsResult (Some (Ok (Generate at end))) reader octets call = ReportsFound 36 reader [] Unset (directive_head at end) call
 ReportsResult (Some (Ok Empty)) reader octets call = ⊥
 ReportsResult (Some (Ok Directive)) reader octets call = ⊥
 

@@ -20,7 +20,7 @@ classes = refl
 
 -- the texts of statuses
 refusals : map (λ r. status_text (number_of r)) (NoRoom ∷ BadPlace ∷ BadTtl ∷ UnknownType ∷ UnknownClass ∷ [])
-    ≡ codes "no room" ∷ codes "place past the end" ∷ codes "expected time to live" ∷ codes "unknown record type" ∷ codes "unknown class" ∷ []
+    ≡ codes "no room" ∷ codes "place past the end" ∷ codes "expected TTL" ∷ codes "unknown record type" ∷ codes "unknown class" ∷ []
 refusals = refl
 
 syntax_errors : map (λ r. status_text (number_of r)) (Closing ∷ OpenParenthesis ∷ OpenQuote ∷ LoneReturn ∷ BadEscape ∷ [])
@@ -28,7 +28,7 @@ syntax_errors : map (λ r. status_text (number_of r)) (Closing ∷ OpenParenthes
 syntax_errors = refl
 
 entries : map (λ r. status_text (number_of r)) (NotSupported ∷ NoOrigin ∷ NoOwner ∷ RefusedOwner ∷ NoTtl ∷ [])
-    ≡ codes "not supported: expand it first" ∷ codes "relative name, and no origin" ∷ codes "no owner" ∷ codes "the owner before is refused" ∷ codes "no time to live" ∷ []
+    ≡ codes "not supported: expand it first" ∷ codes "relative name, and no origin" ∷ codes "no owner" ∷ codes "the owner before is refused" ∷ codes "no TTL" ∷ []
 entries = refl
 
 -- a TTL that is missing, and two of a minute

@@ -1,11 +1,11 @@
 //! The state of a zone file between two calls, in plain numbers and octets.
 ghost use Rattle.std.specs.Prelude.{◌≡◌, ◌≤◌, IsTrue, drop, length, take};
 ghost use Rattle.dns_wire.specs.FromOctets.{MakesName};
-ghost use Rattle.c_calls.specs.Kept.{HoldsButOwner, HoldsForLine, HoldsName, HoldsSomeName, HoldsState, KeepsName, KeepsState, KeepsTtl, MakesOrNot, SetsOrigin, flagged, known_if};
+ghost use Rattle.c_calls.specs.Kept.{HoldsButOwner, HoldsForLine, HoldsName, HoldsSomeName, HoldsState, KeepsName, KeepsState, KeepsTtl, MakesOrNot, SetsOrigin, first_zone, flagged, known_if, no_kept_name};
 ghost use Rattle.c_calls.specs.Reasons.{refusal_of_name};
 ghost use Rattle.zone_reader.specs.declared.known.NameState.TheVariants.{Unset};
 
-use crate::outcome::{Fault, Outcome, Refusal, accept, refuse};
+use crate::outcome::{Fault, OK, Outcome, Refusal, accept, refuse};
 use arrayvec::ArrayVec;
 use dns_wire::{MAX_NAME, Name, NameError};
 use rdata_values::Class;
@@ -221,6 +221,31 @@ pub(crate) fn refusal_of_name(error: NameError) -> Refusal
         NameError::ShortInput => Refusal::ShortInput,
         NameError::Relative | NameError::Absolute => Refusal::RelativeName,
     }
+}
+
+/// Stores no name, and no octets.
+fn clear_name(kept: &mut KeptName)
+    ensures { kept.new ≡ no_kept_name }
+{
+    kept.length = 0;
+    kept.is_refused = 0;
+    kept.octets = [0; 255];
+}
+
+/// Sets a zone to the state at the start of a text: the class `IN` (RFC 1035 section 3.2.4), and
+/// nothing else.
+pub fn zone_init(zone: &mut Zone) -> u32
+    ensures { (result ≡ 0) × (zone.new ≡ first_zone) }
+{
+    zone.class_code = 1;
+    zone.has_default_ttl = 0;
+    zone.has_last_ttl = 0;
+    zone.default_ttl = 0;
+    zone.last_ttl = 0;
+    zone.at = 0;
+    clear_name(&mut zone.origin);
+    clear_name(&mut zone.owner);
+    OK
 }
 
 /// Sets the origin of the entries that follow to an absolute name in wire form. No octets mean no

@@ -133,7 +133,7 @@ fn report_text(
 }
 
 /// Returns the status of octets that are not a name.
-fn refusal_of_octets(error: UncertainDnameError) -> Refusal
+pub(crate) fn refusal_of_octets(error: UncertainDnameError) -> Refusal
     ensures { result ≡ refusal_of_octets error }
 {
     match error {

@@ -1,6 +1,6 @@
 //! Prints record data.
 ghost use Rattle.std.specs.Prelude.{◌≡◌, ◌+◌, length, IsTrue, IfOk, OnOk};
-ghost use Rattle.c_calls.specs.DataText.{PrintsData, PrintsOn, PutsAt, ReportsText, data_text, fault_of_wire};
+ghost use Rattle.c_calls.specs.DataText.{PrintsData, PrintsOn, PutsAt, ReportsDocument, fault_of_wire, line_text};
 ghost use Rattle.c_calls.specs.Reports.{ReportsFault, at_start};
 ghost use Rattle.c_calls.specs.declared.outcome.Refusal.TheVariants.{TooLong};
 
@@ -66,25 +66,25 @@ impl fmt::Write for Over<'_> {
     }
 }
 
-/// Prints data on one line.
-fn print_on<W: Write>(content: &Data<&[u8]>, sink: &mut W) -> fmt::Result
-    ensures { OnOk result (PrintsOn W.write_str_gives content.now sink.old sink.new) }
+/// Prints data or a record on one line.
+fn print_on<D: ZonefileFmt, W: Write>(content: &D, sink: &mut W) -> fmt::Result
+    ensures { OnOk result (PrintsOn W.write_str_gives (D.document content.now) sink.old sink.new) }
 {
     write!(sink, "{}", content.display_zonefile(DisplayKind::Simple))
 }
 
-/// Returns the number of octets of the text of data.
-fn count_text(content: &Data<&[u8]>) -> Result<usize, fmt::Error>
-    ensures { IfOk result (λ count. count ≡ length (data_text content.now)) }
+/// Returns the number of octets of the text of data or of a record.
+fn count_text<D: ZonefileFmt>(content: &D) -> Result<usize, fmt::Error>
+    ensures { IfOk result (λ count. count ≡ length (line_text (D.document content.now))) }
 {
     let mut count = Count { length: 0 };
     print_on(content, &mut count)?;
     Ok(count.length)
 }
 
-/// Copies the text of data to the start of octets.
-fn write_text(content: &Data<&[u8]>, over: &mut [u8]) -> fmt::Result
-    ensures { OnOk result (PutsAt (data_text content.now) 0 over.old over.new) }
+/// Copies the text of data or of a record to the start of octets.
+fn write_text<D: ZonefileFmt>(content: &D, over: &mut [u8]) -> fmt::Result
+    ensures { OnOk result (PutsAt (line_text (D.document content.now)) 0 over.old over.new) }
 {
     let mut sink = Over {
         octets: over,
@@ -96,7 +96,7 @@ fn write_text(content: &Data<&[u8]>, over: &mut [u8]) -> fmt::Result
     result
 }
 
-/// Reports that data has no text.
+/// Reports that printing failed.
 fn refuse_text(outcome: &mut Outcome) -> u32
     ensures { ReportsFault (at_start TooLong) result outcome.new }
 {
@@ -104,9 +104,13 @@ fn refuse_text(outcome: &mut Outcome) -> u32
     refuse(Fault { refusal, place: 0 }, outcome)
 }
 
-/// Writes the text of data.
-fn report_text(content: &Data<&[u8]>, text: &mut [u8], outcome: &mut Outcome) -> u32
-    ensures { ReportsText (data_text content.now) text.old result text.new outcome.new }
+/// Writes the text of data or of a record.
+pub(crate) fn report_text<D: ZonefileFmt>(
+    content: &D,
+    text: &mut [u8],
+    outcome: &mut Outcome,
+) -> u32
+    ensures { ReportsDocument (D.document content.now) text.old result text.new outcome.new }
 {
     let Ok(length) = count_text(content) else {
         return refuse_text(outcome);

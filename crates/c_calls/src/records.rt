@@ -7,7 +7,7 @@ ghost use Rattle.c_calls.specs.Kept.{IsIncludedOrigin, KeepsName};
 ghost use Rattle.c_calls.specs.Reports.{ReportsFault, at_start};
 ghost use Rattle.c_calls.specs.declared.outcome.Refusal.TheVariants.{BadCursor};
 ghost use Rattle.c_calls.specs.declared.records.Record.{Record};
-ghost use Rattle.c_calls.specs.Records.{HasIncluded, IsHeadOfLine, KeepsReader, NextIfRead, NextRecord, ReportsFound, ReportsResult, ReportsLine, ReportsRejected, head_in, head_of, head_with, memory};
+ghost use Rattle.c_calls.specs.Records.{HasIncluded, IsHeadOfLine, KeepsReader, NextIfRead, NextRecord, ReportsFound, ReportsResult, ReportsLine, ReportsRejected, directive_head, head_in, head_of, memory};
 
 use crate::kept::{
     KeptName, Zone, keep_name, keep_state, load_for_line, load_state, name_of, put_over,
@@ -36,8 +36,13 @@ const SOME: usize = 1024;
 /// directive.
 #[repr(C)]
 pub struct Record {
-    /// Offset of the first token of the record or of the directive; 0 for a file.
+    /// Offset of the first token of the record or of the directive.
     pub place: usize,
+    /// Offset of the first token of the data; that of the entry's end without data, and for a
+    /// directive.
+    pub data: usize,
+    /// Offset after the last token of the entry.
+    pub end: usize,
     /// TTL, in seconds, below 2^31 (RFC 2181 section 8); 0 for a file or a directive.
     pub ttl: u32,
     /// Class; 0 for a file or a directive.
@@ -52,17 +57,21 @@ pub struct Record {
 #[derive(Clone, Copy)]
 pub(crate) struct RecordNumbers {
     place: usize,
+    data_at: usize,
+    end: usize,
     ttl: u32,
     class: Class,
     rtype: RecordType,
 }
 
-/// Returns the numbers of an entry that is not a record: its place, and zeros.
-fn no_record(place: usize) -> RecordNumbers
-    ensures { result ≡ head_with place 0 0 0 }
+/// Returns the numbers of an entry that is not a record: its offsets, and zeros.
+fn no_record(place: usize, end: usize) -> RecordNumbers
+    ensures { result ≡ directive_head place end }
 {
     RecordNumbers {
         place,
+        data_at: end,
+        end,
         ttl: 0,
         class: Class(0),
         rtype: RecordType(0),
@@ -77,11 +86,15 @@ fn head_in(read: &ParsedEntry) -> Option<RecordNumbers>
     match read {
         ParsedEntry::Record {
             at,
+            data_at,
+            end,
             ttl,
             class,
             rtype,
         } => Some(RecordNumbers {
             place: *at,
+            data_at: *data_at,
+            end: *end,
             ttl: ttl_of_seconds(ttl.seconds()),
             class: *class,
             rtype: *rtype,
@@ -107,6 +120,8 @@ fn write_record(head: RecordNumbers, name: &NameState, found: &mut Record)
     ensures name { KeepsName name.now found.old.name found.new.name }
 {
     found.place = head.place;
+    found.data = head.data_at;
+    found.end = head.end;
     found.ttl = head.ttl;
     found.class_code = head.class.0;
     found.type_code = head.rtype.0;
@@ -205,26 +220,27 @@ fn report_result(
         Some(
             Ok(
                 ParsedEntry::Include {
+                    at,
+                    end,
                     file_name_len,
                     has_origin,
                 },
             ),
         ) => {
-            let head = no_record(0);
+            let head = no_record(at, end);
             let (name, origin) = include_parts(content, file_name_len);
             let known = included_origin(has_origin, origin);
             report_found(
                 INCLUDE, reader, name, &known, head, zone, found, octets, outcome,
             )
         }
-        Some(Ok(ParsedEntry::Generate { at })) => {
-            let head = no_record(at);
+        Some(Ok(ParsedEntry::Generate { at, end })) => {
             report_found(
                 GENERATE,
                 reader,
                 &[],
                 &NameState::Unset,
-                head,
+                no_record(at, end),
                 zone,
                 found,
                 octets,
@@ -431,8 +447,8 @@ fn next_of_line(
 /// Reads the next record of a zone file, and advances the zone (RFC 1035 section 5.1, RFC 2308
 /// section 4). `$ORIGIN` and `$TTL` are processed on the way.
 ///
-/// The octets are the record's data; or with [`INCLUDE`] the name of a file; or with [`GENERATE`] none,
-/// and the place is that of the directive; or the text of an entry's error, at most 255 of them, cut to
+/// The octets are the record's data; or with [`INCLUDE`] the name of a file; or with [`GENERATE`] none;
+/// or the text of an entry's error, at most 255 of them, cut to
 /// the buffer's length. Errors are reported with their
 /// place, and reading continues at the next entry, or after the line of a syntax error. If data
 /// doesn't fit, nothing is written, and the zone is unchanged. Once nothing is left the status is

@@ -1,6 +1,8 @@
 //! Strings, names, numbers, TTLs, types, classes and encodings.
 ghost use Rattle.c_calls.specs.Codecs.{DecodesText, PrintsOctets};
 ghost use Rattle.c_calls.specs.Kinds.{ReportsCode};
+ghost use Rattle.c_calls.specs.NameForms.{ComparesNames};
+ghost use Rattle.c_calls.specs.NameWords.{ReportsWordName};
 ghost use Rattle.c_calls.specs.Names.{NameAnswer, PrintsName, ReadsNameText, ReportsName, dotted_octets, undotted_octets};
 ghost use Rattle.c_calls.specs.Numbers.{ReportsNumber};
 ghost use Rattle.c_calls.specs.Reports.{CopiesWhole};
@@ -8,6 +10,7 @@ ghost use Rattle.c_calls.specs.Strings.{PrintsString, ReportsOctetString, Report
 ghost use Rattle.c_calls.specs.declared.outcome.Refusal.TheVariants.{BadTtl, UnknownClass, UnknownType};
 ghost use Rattle.dns_charstr.specs.Printed.{quoted_text};
 ghost use Rattle.dns_codec.specs.Base.{base16, base32hex, base64};
+ghost use Rattle.dns_wire.specs.Order.{lowered_wire};
 ghost use Rattle.dns_wire.specs.ZoneText.{zone_text};
 ghost use Rattle.rdata_values.specs.Classes.{SpellsClass, class_text};
 ghost use Rattle.rdata_values.specs.Ttl.{SpellsTtl};
@@ -17,6 +20,8 @@ use c_calls::codecs::{
     base16_print, base16_read, base32hex_print, base32hex_read, base64_print, base64_read,
 };
 use c_calls::kinds::{class_print, class_read, ttl_read, type_print, type_read};
+use c_calls::name_forms::{name_canonical, name_compare, name_ends_with};
+use c_calls::name_words::name_read_octets;
 use c_calls::names::{name_print, name_print_dotted, name_print_zone, name_read};
 use c_calls::numbers::number_read;
 use c_calls::outcome::Outcome;
@@ -125,6 +130,51 @@ pub extern "C" fn dnstext_name_print_zone(
     ensures { PrintsName zone_text name.now text.old result text.new outcome.new }
 {
     name_print_zone(name, text, outcome)
+}
+
+/// Parses a word of a zone file as a name: [`name_read_octets`].
+#[unsafe(no_mangle)]
+pub extern "C" fn dnstext_name_read_octets(
+    text: &[u8],
+    origin: &[u8],
+    name: &mut [u8],
+    outcome: &mut Outcome,
+) -> u32
+    ensures { ReportsWordName text.now origin.now name.old result name.new outcome.new }
+{
+    name_read_octets(text, origin, name, outcome)
+}
+
+/// Converts a name to canonical form: [`name_canonical`].
+#[unsafe(no_mangle)]
+pub extern "C" fn dnstext_name_canonical(name: &[u8], form: &mut [u8], outcome: &mut Outcome) -> u32
+    ensures { PrintsName lowered_wire name.now form.old result form.new outcome.new }
+{
+    name_canonical(name, form, outcome)
+}
+
+/// Compares names in canonical order: [`name_compare`].
+#[unsafe(no_mangle)]
+pub extern "C" fn dnstext_name_compare(
+    a: &[u8],
+    b: &[u8],
+    order: &mut i32,
+    outcome: &mut Outcome,
+) -> u32
+    ensures { ComparesNames a.now b.now order.old result order.new outcome.new }
+{
+    name_compare(a, b, order, outcome)
+}
+
+/// Compares the last labels of a name: [`name_ends_with`].
+#[unsafe(no_mangle)]
+pub extern "C" fn dnstext_name_ends_with(
+    name: &[u8],
+    zone: &[u8],
+    does: &mut u8,
+    outcome: &mut Outcome,
+) -> u32 {
+    name_ends_with(name, zone, does, outcome)
 }
 
 /// Parses a number: [`number_read`].

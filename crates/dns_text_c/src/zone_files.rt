@@ -1,18 +1,22 @@
 //! Zone files: their entries, pieces, records and positions.
 ghost use Rattle.c_calls.specs.Entries.{NextEntry};
 ghost use Rattle.c_calls.specs.Generates.{GeneratesEntry};
-ghost use Rattle.c_calls.specs.Kept.{SetsOrigin};
+ghost use Rattle.std.specs.Prelude.{◌≡◌, ◌≤◌, length};
+ghost use Rattle.c_calls.specs.Kept.{SetsOrigin, first_zone};
 ghost use Rattle.c_calls.specs.Pieces.{NextPiece};
 ghost use Rattle.c_calls.specs.Places.{MovesPosition, ReportsPosition};
+ghost use Rattle.c_calls.specs.RecordPrinting.{PrintsRecord};
 ghost use Rattle.c_calls.specs.Records.{NextRecord, memory};
 
 use c_calls::generate::generate_entry;
-use c_calls::kept::{Zone, zone_origin};
+use c_calls::kept::{Zone, zone_init, zone_origin};
 use c_calls::outcome::Outcome;
 use c_calls::pieces::{CursorState, Piece, tokens_next};
 use c_calls::position::{Position, line_and_column, position_move};
+use c_calls::record_printing::record_print;
 use c_calls::records::{Record, record_next};
 use c_calls::tokens::{Cursor, Token, entry_next};
+use c_calls::whole_entries::entries_len;
 
 /// Returns the tokens of the next entry: [`entry_next`].
 #[unsafe(no_mangle)]
@@ -40,6 +44,14 @@ pub extern "C" fn dnstext_tokens_next(
     tokens_next(text, standing, piece, outcome)
 }
 
+/// Sets a zone to the state at the start of a text: [`zone_init`].
+#[unsafe(no_mangle)]
+pub extern "C" fn dnstext_zone_init(zone: &mut Zone) -> u32
+    ensures { (result ≡ 0) × (zone.new ≡ first_zone) }
+{
+    zone_init(zone)
+}
+
 /// Sets the origin of a zone: [`zone_origin`].
 #[unsafe(no_mangle)]
 pub extern "C" fn dnstext_zone_origin(zone: &mut Zone, name: &[u8], outcome: &mut Outcome) -> u32
@@ -65,6 +77,28 @@ pub extern "C" fn dnstext_record_next(
     }) }
 {
     record_next(text, zone, found, octets, outcome)
+}
+
+/// Prints a record: [`record_print`].
+#[unsafe(no_mangle)]
+pub extern "C" fn dnstext_record_print(
+    found: &Record,
+    octets: &[u8],
+    text: &mut [u8],
+    outcome: &mut Outcome,
+) -> u32
+    ensures { PrintsRecord found.now octets.now text.old result text.new outcome.new }
+{
+    record_print(found, octets, text, outcome)
+}
+
+/// Returns how many octets are whole entries: [`entries_len`].
+#[unsafe(no_mangle)]
+pub extern "C" fn dnstext_entries_len(text: &[u8], whole: &mut usize) -> u32
+    ensures status { result ≡ 0 }
+    ensures within { whole.new ≤ length text.now }
+{
+    entries_len(text, whole)
 }
 
 /// Writes an entry of a `$GENERATE` directive: [`generate_entry`].

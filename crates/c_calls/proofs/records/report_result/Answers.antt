@@ -12,10 +12,12 @@ returns-in-Some-Err c =
 
 pub returns-in-Some-Ok-Include : goal.returns-in-Some-Ok-Include
 returns-in-Some-Ok-Include c =
+    let at = c.in-Some-Ok-Include.at in
+    let end = c.in-Some-Ok-Include.end in
     let file = c.in-Some-Ok-Include.file_name_len in
     let has_origin = c.in-Some-Ok-Include.has_origin in
     let octets = c.args.content.now in
-    let is : c.args.given ≡ Some (Ok (Include file has_origin)) = cc in
+    let is : c.args.given ≡ Some (Ok (Include at end file has_origin)) = cc in
     let read : IsIncluded file has_origin octets = subst (λ g. HasIncluded g octets) is c.requires.included in
     let told = file_told file has_origin octets c.include_parts.result.0.now c.include_parts.result.1.now read c.include_parts.ensures.file c.include_parts.ensures.origin in
     rw is (read, rw (sym told.0, sym (c.included_origin-known.ensures read.origin told.1)) (rw c.no_record-head.ensures at c.report_found.ensures))

@@ -1,0 +1,8 @@
+use Rattle.std.proofs.Common.{length, ◌-◌, ◌≤◌}
+use Rattle.c_calls.proofs.whole_entries.line_after.Given as goal
+
+abbrev pub invariant-octets : goal.invariant-octets
+invariant-octets l = l.fn.from ≤ l.at
+
+abbrev pub decreases-octets : goal.decreases-octets
+decreases-octets l = length l.text - l.at

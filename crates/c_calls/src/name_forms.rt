@@ -1,0 +1,173 @@
+//! The canonical form and order of names, and their last labels.
+ghost use Rattle.std.specs.Prelude.{◌≡◌, ◌≤◌, length};
+ghost use Rattle.dns_octets.specs.Lowered.{lowered};
+ghost use Rattle.dns_wire.specs.Order.{lowered_wire};
+ghost use Rattle.dns_wire.specs.Wire.{wire};
+ghost use Rattle.rdata_tokens.specs.NameSpelling.{IsWireName};
+ghost use Rattle.zone_record.specs.Names.{name_order};
+ghost use Rattle.c_calls.specs.NameForms.{ComparesNames, IsAbsoluteOf, order_number};
+ghost use Rattle.c_calls.specs.Names.{PrintsName};
+ghost use Rattle.c_calls.specs.Reports.{CopiesWhole, ReportsFault, at_start};
+
+use crate::kept::{name_of, refusal_of_name};
+use crate::names::refusal_of_octets;
+use crate::outcome::{Fault, Outcome, Refusal, accept, copy_whole, refuse};
+use crate::tokens::bit;
+use arrayvec::ArrayVec;
+use dns_name::name::UncertainName;
+use dns_octets::AsOctets;
+use dns_octets::lowered::same_octets;
+use dns_wire::{MAX_NAME, NameIter};
+use std::cmp::Ordering;
+use zone_reader::NameBuffer;
+use zone_record::names::{append_lowered, compare_names};
+
+/// Rejects octets that are not a name.
+fn refuse_octets(refusal: Refusal, outcome: &mut Outcome) -> u32
+    ensures { ReportsFault (at_start refusal) result outcome.new }
+{
+    refuse(Fault { refusal, place: 0 }, outcome)
+}
+
+/// Writes octets in lower case.
+fn report_lowered(octets: &[u8], form: &mut [u8], outcome: &mut Outcome) -> u32
+    requires { length octets.now ≤ MAX_NAME }
+    ensures { CopiesWhole (lowered octets.now) form.old result form.new outcome.new }
+{
+    let mut made: ArrayVec<u8, MAX_NAME> = ArrayVec::new();
+    match append_lowered(octets, &mut made) {
+        Ok(()) => copy_whole(made.as_slice(), form, outcome),
+        Err(_) => unreachable!(),
+    }
+}
+
+/// Writes a name in canonical form (RFC 4034 section 6.2): the letters of its labels in lower case.
+///
+/// The form has the same number of octets as the name. Fails as
+/// [`name_print`](crate::names::name_print) does for octets that are not a name.
+pub fn name_canonical(name: &[u8], form: &mut [u8], outcome: &mut Outcome) -> u32
+    ensures { PrintsName lowered_wire name.now form.old result form.new outcome.new }
+{
+    if name.is_empty() {
+        return copy_whole(b"", form, outcome);
+    }
+    match UncertainName::from_octets(name) {
+        Ok(read) => report_lowered(read.as_slice(), form, outcome),
+        Err(error) => refuse_octets(refusal_of_octets(error), outcome),
+    }
+}
+
+/// Returns an order as a number.
+fn number_of_order(order: Ordering) -> i32
+    ensures { result ≡ order_number order }
+{
+    match order {
+        Ordering::Less => -1,
+        Ordering::Equal => 0,
+        Ordering::Greater => 1,
+    }
+}
+
+/// Returns the absolute name that some octets are, or why they are not one.
+fn absolute_of(octets: &[u8]) -> Result<NameBuffer, Refusal>
+    ensures { IsAbsoluteOf octets.now result }
+{
+    if octets.is_empty() {
+        return Err(Refusal::RelativeName);
+    }
+    match name_of(octets) {
+        Ok(name) => Ok(name),
+        Err(error) => Err(refusal_of_name(error)),
+    }
+}
+
+/// Returns the octets of a name in wire format.
+fn octets_of(name: &NameBuffer) -> &[u8]
+    ensures value { result.now ≡ wire name.now }
+    ensures is_wire { IsWireName (wire name.now) }
+{
+    // No effect at run time: the proof reads that the octets are below 256.
+    let _octets = AsOctets::as_slice(name);
+    name.as_slice()
+}
+
+/// Returns the canonical order of names, as a number.
+fn order_of(left: &NameBuffer, right: &NameBuffer) -> i32
+    ensures { result ≡ order_number (name_order left.now right.now) }
+{
+    number_of_order(compare_names(octets_of(left), octets_of(right)))
+}
+
+/// Compares two absolute names in canonical order (RFC 4034 section 6.1): -1 if the first is before
+/// the second, 0 if they differ at most in case, and 1 if it is after it.
+///
+/// Fails with place 0 if octets are not an absolute name, those of `a` first; then `order` is
+/// unchanged.
+pub fn name_compare(a: &[u8], b: &[u8], order: &mut i32, outcome: &mut Outcome) -> u32
+    ensures { ComparesNames a.now b.now order.old result order.new outcome.new }
+{
+    let left = match absolute_of(a) {
+        Ok(left) => left,
+        Err(refusal) => return refuse_octets(refusal, outcome),
+    };
+    match absolute_of(b) {
+        Ok(right) => {
+            *order = order_of(&left, &right);
+            accept(outcome)
+        }
+        Err(refusal) => refuse_octets(refusal, outcome),
+    }
+}
+
+/// Returns why octets are not a name, or `None` if they are one. No octets are the relative name of
+/// no labels.
+fn refusal_of_any(octets: &[u8]) -> Option<Refusal> {
+    if octets.is_empty() {
+        return None;
+    }
+    match UncertainName::from_octets(octets) {
+        Ok(_) => None,
+        Err(error) => Some(refusal_of_octets(error)),
+    }
+}
+
+/// Returns whether labels end with those of some octets, without regard to case.
+fn labels_end_with(labels: NameIter<'_>, zone: &[u8]) -> bool {
+    let mut rest = labels;
+    'labels: while rest.as_slice().len() > zone.len() {
+        if rest.next().is_none() {
+            return false;
+        }
+    }
+    same_octets(rest.as_slice(), zone)
+}
+
+/// Returns whether a name ends with the labels of another one.
+fn ends_with(name: &[u8], zone: &[u8]) -> bool {
+    if zone.is_empty() {
+        return true;
+    }
+    if name.is_empty() {
+        return false;
+    }
+    match UncertainName::from_octets(name) {
+        Ok(read) => labels_end_with(read.iter_labels(), zone),
+        Err(_) => false,
+    }
+}
+
+/// Writes whether the last labels of a name are those of another one, without regard to case.
+///
+/// Fails with place 0 if octets are not a name, those of `name` first; then `does` is unchanged.
+pub fn name_ends_with(name: &[u8], zone: &[u8], does: &mut u8, outcome: &mut Outcome) -> u32 {
+    if let Some(refusal) = refusal_of_any(name) {
+        return refuse_octets(refusal, outcome);
+    }
+    match refusal_of_any(zone) {
+        None => {
+            *does = bit(ends_with(name, zone));
+            accept(outcome)
+        }
+        Some(refusal) => refuse_octets(refusal, outcome),
+    }
+}
