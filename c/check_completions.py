@@ -7,6 +7,7 @@ import re
 import shutil
 import subprocess
 import sys
+import tempfile
 
 CRATES = os.path.join(os.path.dirname(os.path.abspath(__file__)), '../crates')
 BASH = r'''
@@ -50,7 +51,10 @@ def zonetext(path):
     program = os.environ.get('zonetext', path + '/out/zonetext')
     text = printed([program, '--help'])
     commands = re.findall(r'^  (\w+) ', text.split('Commands:')[1].split('Options:')[0], re.M)
-    taken = {name: options(printed([program, name, '--help'])) for name in commands if name != 'help'}
+    helps = {name: printed([program, name, '--help']) for name in commands if name != 'help'}
+    differ.extend(f'help of {name}: more than 80 columns: {line}' for name, page in [('zonetext', text), *helps.items()]
+                  for line in page.splitlines() if len(line) > 80)
+    taken = {name: options(page) for name, page in helps.items()}
     for shell, ask in SHELLS.items():
         first = [word for word in ask(path, ['zonetext', '']) if word[0] != '-']
         compare(shell, ['zonetext'], first, commands)
@@ -64,7 +68,28 @@ def zonetext(path):
     for name, wanted in taken.items():
         own = re.search(rf'^    {name}\)\n +_arguments (\$common )?(.*)', lines, re.M)
         compare('zsh', ['zonetext', name], (common if own[1] else []) + zsh_options(own[2]), wanted)
+    values(path, program)
     return len(taken) + 1
+
+
+def values(path, program):
+    """Compares the values that bash and fish offer with those that the program accepts."""
+    codes = [line.split('\t')[0] for line in printed([program, 'codes']).splitlines()]
+    wanted = {('check', '--allow'): codes, ('check', '--deny'): codes, ('explain',): codes}
+    for words in ('check', '--format'), ('check', '--color'), ('digest', '--write', '--hash'):
+        said = printed([program, *words, 'x', '-'], 2)
+        wanted[words] = re.search(r'possible values: (.*)\]', said)[1].split(', ')
+    with tempfile.TemporaryDirectory() as folder:
+        os.symlink(os.path.abspath(program), folder + '/zonetext')
+        os.environ['PATH'] = f'{folder}:{os.environ["PATH"]}'
+        for shell, ask in SHELLS.items():
+            for words, known in wanted.items():
+                found = [word for word in ask(path, ['zonetext', *words, '']) if word[0] != '-']
+                compare(shell, ['zonetext', *words], found, known)
+    text = open(path + '/completions/_zonetext', encoding='utf-8').read()
+    for word in 'allow', 'deny':
+        if not re.search(rf"--{word}\[[^]]*\]:code:\(\$\(zonetext codes ", text):
+            differ.append(f'zsh: no codes after --{word}')
 
 
 def zsh_options(text):

@@ -25,7 +25,7 @@ def main():
         seconds = int(time.monotonic() - began)
         print(f'{seconds // 60:3}:{seconds % 60:02} {what}', file=sys.stderr, flush=True)
 
-    print('The library is proved first: some 35 minutes on four quiet cores, and less where crates of it '
+    print('The library is proved first: about an hour on four quiet cores, and less where crates of it '
           f'were\nproved before. What rt says is in {log}.', file=sys.stderr, flush=True)
     with open(log, 'w', encoding='utf-8') as kept:
         run = subprocess.Popen(command, cwd=folder, stdout=subprocess.PIPE, stderr=subprocess.STDOUT,

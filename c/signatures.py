@@ -10,7 +10,8 @@ import sys
 
 HERE = os.path.dirname(os.path.abspath(__file__))
 # A flag is one octet, which the library writes as 0 or 1 and accepts with any value.
-NUMBERS = {'usize': 'size_t', 'u64': 'uint64_t', 'u32': 'uint32_t', 'u16': 'uint16_t', 'u8': 'bool'}
+NUMBERS = {'usize': 'size_t', 'u64': 'uint64_t', 'u32': 'uint32_t', 'u16': 'uint16_t', 'u8': 'bool',
+           'i32': 'int32_t'}
 STRUCTS = {'Outcome': 'struct dnstext_outcome', 'Token': 'struct dnstext_token',
            'Cursor': 'struct dnstext_cursor', 'Piece': 'struct dnstext_piece',
            'CursorState': 'struct dnstext_lexer', 'KeptName': 'struct dnstext_kept_name',
@@ -38,8 +39,8 @@ def c_types(kind):
     if slice_of:
         of = STRUCTS.get(slice_of[2], 'uint8_t')
         return [('' if slice_of[1] else 'const ') + of + ' *', 'size_t']
-    one = re.fullmatch(r'&mut (\w+)', kind)
-    return [STRUCTS.get(one[1], NUMBERS.get(one[1])) + ' *']
+    one = re.fullmatch(r'&(mut )?(\w+)', kind)
+    return [('' if one[1] else 'const ') + STRUCTS.get(one[2], NUMBERS.get(one[2])) + ' *']
 
 
 def exported():
@@ -136,8 +137,8 @@ def c_type_of_rust(kind):
                     ('*mut u8', 'uint8_t *'), ('*mut bool', 'bool *'), ('bool', 'bool')]:
         if kind == rust:
             return c
-    pointed = kind.removeprefix('*mut ')
-    c = NUMBERS.get(pointed, 'struct ' + pointed)
+    pointed = kind.removeprefix('*const ').removeprefix('*mut ')
+    c = ('const ' if kind.startswith('*const ') else '') + NUMBERS.get(pointed, 'struct ' + pointed)
     return c + ' *' if pointed != kind else c
 
 

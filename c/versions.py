@@ -13,6 +13,8 @@ import sys
 
 TOP = os.path.dirname(os.path.dirname(os.path.realpath(__file__)))
 FORM = r'[0-9]+\.[0-9]+\.[0-9]+'
+# The first two components, which the name of the shared library has.
+SHORT = r'[0-9]+\.[0-9]+(?![.0-9])'
 
 
 def number(version):
@@ -32,13 +34,28 @@ PLACES = [
     ('crates/zonetext/zonetext.1', r'^\.Os zonetext (.*)$'),
     ('crates/zonetext_findings/src/machine.rt', r'VERSION: &str = "(.*)"'),
     ('crates/zonetext/integration/github-actions.yml', rf'zonetext_({FORM})_amd64\.deb'),
+    ('js/dnstext.js', r"VERSION = '(.*)'"),
+    ('js/package.json', r'^  "version": "(.*)",$'),
+    ('js/README.md', rf'dnstext-({FORM})\.tgz'),
     ('rust/dns-text/Cargo.toml', r'^version = "(.*)"$'),
     ('rust/dns-text-sys/Cargo.toml', r'^version = "(.*)"$'),
+    ('rust/dns-text/Cargo.toml', r'^dns-text-sys = \{ version = "=(.*)", path'),
+    ('rust/dns-text-serde/Cargo.toml', r'^version = "(.*)"$'),
+    ('rust/dns-text-serde/Cargo.toml', r'^dns-text = \{ version = "=(.*)", path'),
+    ('rust/dns-text-serde/README.md', r'^dns-text-serde = \{ version = "=(.*)", features'),
     ('rust/Cargo.lock', r'^name = "dns-text(?:-sys)?"\nversion = "(.*)"$'),
+    ('python/dnstext/_library.py', r'^VERSION = "(.*)"$'),
+    ('docs/PYTHON.md', rf'dnstext-({FORM})(?:-py3-none-\w+\.whl|\.tar\.gz)'),
+    ('docs/PYTHON.md', rf'dnstext_({FORM})_all\.deb'),
+    ('docs/PYTHON.md', rf'libdnstext(?:\.so\.)?({SHORT})'),
     ('README.md', rf'(?:zonetext|dnstext|libdnstext-dev)_({FORM})_amd64\.deb'),
     ('docs/RULES.md', rf'`dnstext ({FORM})`'),
-    ('docs/BINDINGS.md', rf'(?:zonetext|dnstext|libdnstext-dev)_({FORM})_amd64\.deb'),
-    ('docs/BINDINGS.md', rf'dnstext-({FORM})(?:-x86_64-linux)?\.tar\.gz'),
+    ('docs/ZONETEXT.md', rf'zonetext_({FORM})_amd64\.deb'),
+    ('docs/C.md', rf'(?:zonetext|dnstext|libdnstext-dev|libdnstext[0-9.]+)_({FORM})_amd64\.deb'),
+    ('docs/C.md', rf'libdnstext(?:\.so\.)?({SHORT})'),
+    ('docs/C.md', rf'find_package\(dnstext ({SHORT})'),
+    ('docs/C.md', rf'dnstext-({FORM})(?:-x86_64-linux)?\.tar\.gz'),
+    ('docs/C.md', rf'release VERSION=({FORM})'),
 ]
 
 
@@ -56,7 +73,9 @@ def read(path):
 
 
 def wanted(form, version):
-    return number(version) if 'NUMBER' in form else version
+    if 'NUMBER' in form:
+        return number(version)
+    return version.rpartition('.')[0] if SHORT in form else version
 
 
 def differences(version):

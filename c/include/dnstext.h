@@ -28,8 +28,8 @@ extern "C" {
 
 /* The version of this header; dnstext_version() returns that of the library. The number is the first
  * component times a million, plus the second times a thousand, plus the third. */
-#define DNSTEXT_VERSION "0.2.0"
-#define DNSTEXT_VERSION_NUMBER 2000
+#define DNSTEXT_VERSION "0.3.0"
+#define DNSTEXT_VERSION_NUMBER 3000
 
 enum dnstext_status {
     DNSTEXT_OK = 0,
@@ -135,6 +135,35 @@ uint32_t dnstext_name_print_dotted(const uint8_t *name, size_t name_len, uint8_t
  * that name; dnstext_data_print prints names in the same way. */
 uint32_t dnstext_name_print_zone(const uint8_t *name, size_t name_len, uint8_t *text, size_t text_len,
                                  struct dnstext_outcome *outcome);
+/* Parses a word of a zone file as a name, as dnstext_record_next parses an owner: '@' is the origin, which
+ * is appended to relative names, and each octet but the dot and the backslash denotes itself, also 0x80
+ * to 0xFF. The name is absolute. The origin is an absolute name in wire format, or no octets; another
+ * one is rejected as by dnstext_zone_origin. Fails with DNSTEXT_BAD_NAME for a text that isn't one word,
+ * such as the empty one, or one with a blank, a line end, a quote, a parenthesis or a semicolon, none
+ * of which is escaped, but with DNSTEXT_BAD_ESCAPE if an escape before that is wrong or is cut short;
+ * then for the first error in the word with DNSTEXT_EMPTY_LABEL, DNSTEXT_LONG_LABEL or DNSTEXT_TOO_LONG,
+ * or with DNSTEXT_NO_ORIGIN at its end. Every error has the place 0. */
+uint32_t dnstext_name_read_octets(const uint8_t *text, size_t text_len, const uint8_t *origin,
+                                  size_t origin_len, uint8_t *name, size_t name_len,
+                                  struct dnstext_outcome *outcome);
+/* Returns a name in canonical form (RFC 4034 section 6.2): the ASCII letters of its labels in lower case,
+ * and all other octets as they are. The number of octets is the same. Fails as dnstext_name_print does
+ * for octets that aren't a name. */
+uint32_t dnstext_name_canonical(const uint8_t *name, size_t name_len, uint8_t *form, size_t form_len,
+                                struct dnstext_outcome *outcome);
+/* Compares two absolute names in canonical order (RFC 4034 section 6.1): the order is -1 if `a` is before
+ * `b`, 0 if they differ at most in the case of letters, and 1 if it is after `b`. Other octets are
+ * rejected as by dnstext_zone_origin, those of `a` first, also if there are none. `order` must not be
+ * NULL; after an error it is unchanged. The length is 0. */
+uint32_t dnstext_name_compare(const uint8_t *a, size_t a_len, const uint8_t *b, size_t b_len, int32_t *order,
+                              struct dnstext_outcome *outcome);
+/* Returns whether the last labels of a name are those of another one, without regard to case: so whether
+ * an absolute name is below an absolute name, or the same. A relative name can only end with a relative
+ * one, and each name ends with the one without labels. Fails as dnstext_name_print does for octets that
+ * aren't a name, those of `name` first. `does` must not be NULL; after an error it is unchanged. The
+ * length is 0. */
+uint32_t dnstext_name_ends_with(const uint8_t *name, size_t name_len, const uint8_t *zone, size_t zone_len,
+                                bool *does, struct dnstext_outcome *outcome);
 
 /* ---- Decimal numbers: a token's plain digits. The empty text is 0.
  *
@@ -188,6 +217,13 @@ uint32_t dnstext_data_print(uint16_t code, const uint8_t *octets, size_t octets_
  * most 16 KB of stack, but up to 80 KB for RDATA of more than 1,024 octets. */
 uint32_t dnstext_data_read(uint16_t code, const uint8_t *text, size_t text_len, const uint8_t *origin,
                            size_t origin_len, uint8_t *octets, size_t octets_len,
+                           struct dnstext_outcome *outcome);
+
+/* Returns RDATA of TXT with these octets, which may be any: the character strings have 255 octets, and
+ * the last one the rest. No octets are one empty string. For a value that isn't in presentation format,
+ * such as a key of DKIM: in it a semicolon would begin a comment. Fails with DNSTEXT_TOO_LONG and the
+ * place 65279 for more octets than that, whose strings exceed 65535 octets. */
+uint32_t dnstext_text_data(const uint8_t *octets, size_t octets_len, uint8_t *data, size_t data_len,
                            struct dnstext_outcome *outcome);
 
 /* Returns RDATA in canonical form (RFC 4034 section 6.2, RFC 6840 section 5.1): the names in it in
@@ -308,7 +344,9 @@ struct dnstext_zone {
 /* clang-format on */
 
 struct dnstext_record {
-    size_t place; /* offset of its first token */
+    size_t place; /* offset of the first token of the record or of the directive */
+    size_t data;  /* offset of the first token of its RDATA, or `end` if there is none */
+    size_t end;   /* offset after the last token of the entry */
     uint32_t ttl; /* in seconds: its own; else the default; else that of the last record that had one;
                                   else, of an SOA, its minimum. A TTL of 2^31 or more is returned as 0
                                   (RFC 2181 section 8) */
@@ -316,6 +354,9 @@ struct dnstext_record {
     uint16_t type_code;
     struct dnstext_kept_name name; /* the owner */
 };
+
+/* Sets a zone to DNSTEXT_ZONE_INIT. Always returns DNSTEXT_OK. */
+uint32_t dnstext_zone_init(struct dnstext_zone *zone);
 
 /* Sets the origin to an absolute name in wire format, or to none if there are no octets. Other octets
  * are rejected as by printing a name, or with DNSTEXT_RELATIVE_NAME, with the place 0; the zone is then
@@ -327,14 +368,15 @@ uint32_t dnstext_zone_origin(struct dnstext_zone *zone, const uint8_t *name, siz
  * names. It handles $ORIGIN and $TTL before it. Once no record is left the status is DNSTEXT_END.
  *
  * For $INCLUDE the status is DNSTEXT_INCLUDE, and the octets are the name of the file, as in the text
- * without quotes. The record has the origin for the file, or a name of length 0, and zeros. To read the
- * file: store the zone; in a copy set `at` to 0 and, if there is one, set that origin; read the file
- * with the copy; then copy its TTLs back into the stored zone.
+ * without quotes. The record has the offsets of the directive, of which `data` is `end`, and the origin
+ * for the file, or a name of length 0, and otherwise zeros. To read the file: store the zone; in a copy
+ * set `at` to 0 and, if there is one, set that origin; read the file with the copy; then copy its TTLs
+ * back into the stored zone.
  *
- * For $GENERATE the status is DNSTEXT_GENERATE, and the length is 0. The record has the place of the
- * directive, whose octets are those of the text from there up to the zone's `at`, and otherwise a name
- * of length 0 and zeros. dnstext_generate_entry writes the text of each of its entries; read each as a
- * file that is included, without an origin of its own.
+ * For $GENERATE the status is DNSTEXT_GENERATE, and the length is 0. The record has the offsets of the
+ * directive, of which `data` is `end`, and otherwise a name of length 0 and zeros. The octets of the
+ * directive are those of the text from its place up to the zone's `at`. dnstext_generate_entry writes
+ * the text of each of its entries; read each as a file that is included, without an origin of its own.
  *
  * The error of an entry has its place, and so does a syntax error; the record is then unchanged.
  * Parsing continues at the next entry, or after the line of a syntax error. For the error of an entry
@@ -349,6 +391,27 @@ uint32_t dnstext_zone_origin(struct dnstext_zone *zone, const uint8_t *name, siz
 uint32_t dnstext_record_next(const uint8_t *text, size_t text_len, struct dnstext_zone *zone,
                              struct dnstext_record *record, uint8_t *octets, size_t octets_len,
                              struct dnstext_outcome *outcome);
+
+/* Prints a record on one line, without a line feed: its owner as by dnstext_name_print_zone, its TTL, its
+ * class, its type and its RDATA as by dnstext_data_print, with a space between. With a line feed after
+ * it dnstext_record_next returns this record, in whichever state. The offsets of the record are not
+ * read. The type has its name if the RDATA is printed in the format of the type; before \# only if each
+ * name server knows that name, and otherwise TYPE and its number (RFC 3597 section 5).
+ *
+ * Errors are checked in this order, and all but one have the place 0: DNSTEXT_REFUSED_OWNER for a name
+ * that is refused; DNSTEXT_NO_OWNER for a name of length 0; for octets that aren't an absolute name the
+ * statuses of dnstext_zone_origin, with DNSTEXT_TOO_LONG for a length of more than 255;
+ * DNSTEXT_BAD_TTL for a TTL of 2^31 or more; those of dnstext_data_print. A call uses at most 16 KB of
+ * stack. */
+uint32_t dnstext_record_print(const struct dnstext_record *record, const uint8_t *data, size_t data_len,
+                              uint8_t *text, size_t text_len, struct dnstext_outcome *outcome);
+
+/* Returns how many octets of a text are whole entries, whatever follows it: up to the last line end that
+ * ends an entry, or a line that is skipped because of a syntax error. So a zone file is read in chunks:
+ * dnstext_record_next reads the whole entries as it reads them in the file, and the rest is moved before
+ * the next chunk. At the end of the file all octets are read. `whole` must not be NULL. Always returns
+ * DNSTEXT_OK. The time is linear in the length. */
+uint32_t dnstext_entries_len(const uint8_t *text, size_t text_len, size_t *whole);
 
 /* Writes the text of an entry of a $GENERATE directive of BIND, with a line feed at its end, and stores
  * its number. Entries are counted from 0; after the last one the status is DNSTEXT_END. The octets are

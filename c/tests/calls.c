@@ -149,6 +149,135 @@ static void names(void) {
     refuses(dnstext_name_print_zone, zeros, 256, DNSTEXT_TOO_LONG, 0, __LINE__);
 }
 
+/* A word with the origin. */
+static const uint8_t *word_origin;
+static size_t word_origin_len;
+
+static uint32_t read_word(const uint8_t *text, size_t text_len, uint8_t *name, size_t name_len,
+                          struct dnstext_outcome *outcome) {
+    return dnstext_name_read_octets(text, text_len, word_origin, word_origin_len, name, name_len, outcome);
+}
+
+static void words(void) {
+    uint8_t label[64], long_text[256], long_name[255];
+    size_t i;
+    word_origin = (const uint8_t *)"\7Example", word_origin_len = 9;
+    GIVES(read_word, "@", "\7Example\0");
+    GIVES(read_word, ".", "\0");
+    GIVES(read_word, "w", "\1w\7Example\0");
+    GIVES(read_word, "w.A.", "\1w\1A\0");
+    GIVES(read_word, "\xC3\xA9.\\.\\032\x01", "\2\xC3\xA9\3. \1\7Example\0");
+    GIVES(read_word, "\\@.\\;\\ \\\"", "\1@\3; \"\7Example\0");
+    GIVES(read_word, "$a", "\2$a\7Example\0");
+    REFUSES(read_word, "", DNSTEXT_BAD_NAME, 0);
+    REFUSES(read_word, " ", DNSTEXT_BAD_NAME, 0);
+    REFUSES(read_word, " w", DNSTEXT_BAD_NAME, 0);
+    REFUSES(read_word, "w ", DNSTEXT_BAD_NAME, 0);
+    REFUSES(read_word, "w\n", DNSTEXT_BAD_NAME, 0);
+    REFUSES(read_word, "a b", DNSTEXT_BAD_NAME, 0);
+    REFUSES(read_word, "\"w\"", DNSTEXT_BAD_NAME, 0);
+    REFUSES(read_word, "w;", DNSTEXT_BAD_NAME, 0);
+    REFUSES(read_word, ";", DNSTEXT_BAD_NAME, 0);
+    REFUSES(read_word, "(w)", DNSTEXT_BAD_NAME, 0);
+    REFUSES(read_word, ")", DNSTEXT_BAD_NAME, 0);
+    REFUSES(read_word, "w\\", DNSTEXT_BAD_ESCAPE, 0);
+    REFUSES(read_word, "w\\25", DNSTEXT_BAD_ESCAPE, 0);
+    REFUSES(read_word, "w\\2x.", DNSTEXT_BAD_ESCAPE, 0);
+    REFUSES(read_word, "w\\256.", DNSTEXT_BAD_ESCAPE, 0);
+    REFUSES(read_word, ".w", DNSTEXT_EMPTY_LABEL, 0);
+    REFUSES(read_word, "a..b", DNSTEXT_EMPTY_LABEL, 0);
+    memset(label, 'a', sizeof label);
+    refuses(read_word, label, 64, DNSTEXT_LONG_LABEL, 0, __LINE__);
+    for (i = 0; i < 128; i++)
+        long_text[2 * i] = 'a', long_text[2 * i + 1] = '.';
+    for (i = 0; i < 123; i++)
+        long_name[2 * i] = 1, long_name[2 * i + 1] = 'a';
+    memcpy(long_name + 246, "\7Example", 9);
+    gives(read_word, long_text, 245, long_name, 255, __LINE__);
+    refuses(read_word, long_text, 247, DNSTEXT_TOO_LONG, 0, __LINE__);
+    refuses(read_word, long_text, 256, DNSTEXT_TOO_LONG, 0, __LINE__);
+    word_origin_len = 0;
+    GIVES(read_word, "w.", "\1w\0");
+    REFUSES(read_word, "w", DNSTEXT_NO_ORIGIN, 0);
+    REFUSES(read_word, "@", DNSTEXT_NO_ORIGIN, 0);
+    word_origin_len = 8;
+    REFUSES(read_word, "w.", DNSTEXT_RELATIVE_NAME, 0);
+    word_origin_len = 7;
+    REFUSES(read_word, "", DNSTEXT_SHORT_INPUT, 0);
+}
+
+static void forms(void) {
+    uint8_t zeros[256];
+    memset(zeros, 0, sizeof zeros);
+    /* 'A' and 'Z' are also lengths: of 65 octets and more, which no label has. */
+    GIVES(dnstext_name_canonical, "\4A@[Z\3az\xC4\0", "\4a@[z\3az\xC4\0");
+    GIVES(dnstext_name_canonical, "\1A", "\1a");
+    GIVES(dnstext_name_canonical, "\0", "\0");
+    GIVES(dnstext_name_canonical, "", "");
+    REFUSES(dnstext_name_canonical, "\2A", DNSTEXT_SHORT_INPUT, 0);
+    REFUSES(dnstext_name_canonical, "\1A\xC0\0", DNSTEXT_POINTER, 0);
+    REFUSES(dnstext_name_canonical, "AA", DNSTEXT_BAD_LABEL, 0);
+    refuses(dnstext_name_canonical, zeros, 256, DNSTEXT_TOO_LONG, 0, __LINE__);
+}
+
+static void compares(const uint8_t *a, size_t a_len, const uint8_t *b, size_t b_len, uint32_t status,
+                     int32_t wanted, int line) {
+    struct dnstext_outcome outcome = {7, 7};
+    int32_t order = 9;
+    expect(dnstext_name_compare(a, a_len, b, b_len, &order, &outcome) == status, "status", line);
+    expect(tells(outcome, 0, 0) && order == wanted, "order", line);
+}
+#define COMPARES(a, b, order) \
+    compares(BYTES(a), BYTES(b), DNSTEXT_OK, order, __LINE__), \
+        compares(BYTES(b), BYTES(a), DNSTEXT_OK, -(order), __LINE__)
+#define COMPARES_NONE(a, b, status) compares(BYTES(a), BYTES(b), status, 9, __LINE__)
+
+static void ends(const uint8_t *name, size_t name_len, const uint8_t *zone, size_t zone_len, uint32_t status,
+                 bool wanted, int line) {
+    struct dnstext_outcome outcome = {7, 7};
+    bool does = !wanted;
+    expect(dnstext_name_ends_with(name, name_len, zone, zone_len, &does, &outcome) == status, "status", line);
+    expect(tells(outcome, 0, 0) && does == (status == DNSTEXT_OK ? wanted : !wanted), "does", line);
+}
+#define ENDS(name, zone, does) ends(BYTES(name), BYTES(zone), DNSTEXT_OK, does, __LINE__)
+#define ENDS_NONE(name, zone, status) ends(BYTES(name), BYTES(zone), status, true, __LINE__)
+
+/* RFC 4034 section 6.1 has the first eight names, in order. */
+static void orders(void) {
+    COMPARES("\7example\0", "\1a\7example\0", -1);
+    COMPARES("\1a\7example\0", "\10yljkjljk\1a\7example\0", -1);
+    COMPARES("\10yljkjljk\1a\7example\0", "\1Z\1a\7example\0", -1);
+    COMPARES("\1Z\1a\7example\0", "\4zABC\1a\7EXAMPLE\0", -1);
+    COMPARES("\4zABC\1a\7EXAMPLE\0", "\1z\7example\0", -1);
+    COMPARES("\1z\7example\0", "\1\1\1z\7example\0", -1);
+    COMPARES("\1\1\1z\7example\0", "\1*\1z\7example\0", -1);
+    COMPARES("\1*\1z\7example\0", "\1\310\1z\7example\0", -1);
+    COMPARES("\0", "\1a\0", -1);
+    COMPARES("\1A\7example\0", "\1a\7EXAMPLE\0", 0);
+    COMPARES("\0", "\0", 0);
+    COMPARES_NONE("", "\0", DNSTEXT_RELATIVE_NAME);
+    COMPARES_NONE("\0", "\1a", DNSTEXT_RELATIVE_NAME);
+    COMPARES_NONE("\1", "\1a", DNSTEXT_SHORT_INPUT);
+    COMPARES_NONE("\0", "\1a\xC0\x0C", DNSTEXT_POINTER);
+    ENDS("\1w\7eXample\0", "\7Example\0", true);
+    ENDS("\7example\0", "\7Example\0", true);
+    ENDS("\7example\0", "\0", true);
+    ENDS("\7example\0", "\1w\7example\0", false);
+    ENDS("\1w\7examplf\0", "\7example\0", false);
+    ENDS("\11w\7example\0", "\7example\0", false);
+    ENDS("\1a\7example", "\7example", true);
+    ENDS("\1a\7example\0", "\7example", false);
+    ENDS("\7example", "\0", false);
+    ENDS("\7example", "", true);
+    ENDS("\7example\0", "", true);
+    ENDS("\0", "", true);
+    ENDS("", "", true);
+    ENDS("", "\0", false);
+    ENDS("", "\1a", false);
+    ENDS_NONE("\1", "\xC0\x0C", DNSTEXT_SHORT_INPUT);
+    ENDS_NONE("", "\1a\xC0\x0C", DNSTEXT_POINTER);
+}
+
 static void number(const uint8_t *text, size_t length, uint64_t greatest, uint32_t status, uint64_t value,
                    size_t place, int line) {
     struct dnstext_outcome outcome = {7, 7};
@@ -640,6 +769,9 @@ static void version(void) {
 int main(void) {
     strings();
     names();
+    words();
+    forms();
+    orders();
     numbers();
     kinds();
     positions();

@@ -121,8 +121,35 @@ static void canonical_forms(void) {
     EXPECT(memcmp(form, "\1a\0", 4) == 0 && memcmp(form + 4, many + 4, 1021) == 0);
 }
 
+/* RFC 1035 sections 3.3 and 3.3.14. */
+static void texts_of_octets(void) {
+    static uint8_t many[65280], data[65536 + 1];
+    struct dnstext_outcome outcome = {7, 7};
+    size_t i;
+    memset(many, 'x', sizeof many);
+    GIVES(dnstext_text_data, "", "\0");
+    GIVES(dnstext_text_data, "v=DKIM1; p=\"\\\0", "\16v=DKIM1; p=\"\\\0");
+    data[0] = 255;
+    memset(data + 1, 'x', 255);
+    gives(dnstext_text_data, many, 255, data, 256, __LINE__);
+    data[256] = 1, data[257] = 'x';
+    gives(dnstext_text_data, many, 256, data, 258, __LINE__);
+    data[256] = 255;
+    memset(data + 257, 'x', 255);
+    gives(dnstext_text_data, many, 510, data, 512, __LINE__);
+    EXPECT(dnstext_text_data(many, 65279, data, 65534, &outcome) == DNSTEXT_NO_ROOM);
+    EXPECT(tells(outcome, 65535, 0));
+    memset(data, '-', sizeof data);
+    EXPECT(dnstext_text_data(many, 65279, data, 65536, &outcome) == DNSTEXT_OK && tells(outcome, 65535, 0));
+    for (i = 0; i < 65535; i++)
+        EXPECT(data[i] == (i % 256 != 0 ? 'x' : i < 65280 ? 255 : 254));
+    EXPECT(data[65535] == '-');
+    refuses(dnstext_text_data, many, 65280, DNSTEXT_TOO_LONG, 65279, __LINE__);
+}
+
 int main(void) {
     record_data();
+    texts_of_octets();
     canonical_forms();
     return failures != 0;
 }

@@ -5,7 +5,7 @@
 #include "expect.h"
 #include <pthread.h>
 
-enum { STACK = 1 << 18, MOST = 16 * 1024, MOST_LONG = 80 * 1024, LONG = 1200, PAINT = 0xA5 };
+enum { STACK = 1 << 18, MOST = 16 * 1024, MOST_LONG = 80 * 1024, LONG = 1200, LONGEST = 65535, PAINT = 0xA5 };
 
 /* The text of RDATA of a type; or of an entry, if the type is 0; and the status of parsing it. */
 struct row {
@@ -127,6 +127,114 @@ static void check_long(const char *before, const char *after, uint32_t expected)
     check(MOST_LONG);
 }
 
+/* ---- the other calls */
+
+static uint8_t data[LONGEST], printed[1 << 20];
+static size_t data_len;
+static struct dnstext_record record;
+static struct dnstext_outcome outcome;
+static uint32_t (*other)(void);
+
+static void *call_other(void *unused) {
+    status = other();
+    return unused;
+}
+
+static uint32_t print_record(void) {
+    return dnstext_record_print(&record, data, data_len, printed, sizeof printed, &outcome);
+}
+
+static uint32_t print_data(void) {
+    return dnstext_data_print(record.type_code, data, data_len, printed, sizeof printed, &outcome);
+}
+
+static uint32_t make_canonical(void) {
+    return dnstext_data_canonical(record.type_code, data, data_len, printed, sizeof printed, &outcome);
+}
+
+static uint32_t make_text_data(void) {
+    return dnstext_text_data(data, data_len < 65279 ? data_len : 65279, printed, sizeof printed, &outcome);
+}
+
+static uint32_t print_name(void) {
+    return dnstext_name_print_zone(record.name.octets, record.name.length, printed, sizeof printed, &outcome);
+}
+
+static uint32_t read_name(void) {
+    return dnstext_name_read_octets((const uint8_t *)"a\\.b", 4, record.name.octets, record.name.length,
+                                    printed, sizeof printed, &outcome);
+}
+
+static uint32_t lower_name(void) {
+    return dnstext_name_canonical(record.name.octets, record.name.length, printed, sizeof printed, &outcome);
+}
+
+static uint32_t compare_names(void) {
+    int32_t order;
+    return dnstext_name_compare(record.name.octets, record.name.length, record.name.octets,
+                                record.name.length, &order, &outcome);
+}
+
+static uint32_t is_below(void) {
+    bool does;
+    return dnstext_name_ends_with(record.name.octets, record.name.length, record.name.octets,
+                                  record.name.length, &does, &outcome);
+}
+
+static uint32_t find_entries(void) {
+    size_t whole;
+    return dnstext_entries_len((const uint8_t *)"a (\n) b\nc", 9, &whole);
+}
+
+static uint32_t generate(void) {
+    static const char text[] = "$GENERATE 1-9/3 h${-1,5,x} 60 CNAME \"a$.example.\"";
+    uint32_t number;
+    return dnstext_generate_entry((const uint8_t *)text, sizeof text - 1, 1, &number, printed, sizeof printed,
+                                  &outcome);
+}
+
+/* Makes each other call, of the RDATA in `data`. */
+static void check_others(size_t most) {
+    static const struct {
+        const char *name;
+        uint32_t (*call)(void);
+    } calls[] = {
+        {"dnstext_record_print", print_record},     {"dnstext_data_print", print_data},
+        {"dnstext_data_canonical", make_canonical}, {"dnstext_text_data", make_text_data},
+        {"dnstext_name_print_zone", print_name},    {"dnstext_name_read_octets", read_name},
+        {"dnstext_name_canonical", lower_name},     {"dnstext_name_compare", compare_names},
+        {"dnstext_name_ends_with", is_below},       {"dnstext_entries_len", find_entries},
+        {"dnstext_generate_entry", generate},
+    };
+    size_t i, used;
+    for (i = 0; i < sizeof calls / sizeof *calls; i++) {
+        other = calls[i].call;
+        used = written(call_other) - least;
+        if (is_shown)
+            printf("%6zu octets, status %2u: %s, type %u\n", used, (unsigned)status, calls[i].name,
+                   (unsigned)record.type_code);
+        if (status == DNSTEXT_OK && used <= most)
+            continue;
+        fprintf(stderr, "%s: status %u, %zu octets of stack: %s, type %u\n", TESTS, (unsigned)status, used,
+                calls[i].name, (unsigned)record.type_code);
+        failures++;
+    }
+}
+
+/* The other calls, of a record; and then of the longest RDATA. */
+static void check_record(const char *text) {
+    struct dnstext_zone zone = DNSTEXT_ZONE_INIT;
+    status =
+        dnstext_record_next((const uint8_t *)text, strlen(text), &zone, &record, data, sizeof data, &outcome);
+    data_len = outcome.length;
+    if (status != DNSTEXT_OK) {
+        fprintf(stderr, "%s: status %u: %s\n", TESTS, (unsigned)status, text);
+        failures++;
+        return;
+    }
+    check_others(MOST);
+}
+
 int main(int count, char **arguments) {
     size_t at;
     void *memory;
@@ -146,6 +254,14 @@ int main(int count, char **arguments) {
     check_unsorted("a. 60 IN SVCB ( 1 .\n no-default-alpn alpn=h2 )\n");
     check_long("a. 60 IN TYPE65280 \\# 1200 ", "\n", DNSTEXT_NO_ROOM);
     check_long("a. 60 IN TYPE65280 \\# 1200 ", " )\n", DNSTEXT_CLOSING);
+    check_record("a. 60 IN A 192.0.2.1\n");
+    check_record("a. 60 IN SVCB 1 . mandatory=alpn alpn=\"h2,h3\" port=1 ipv6hint=2001:db8::1 key65000=x\n");
+    check_record("a. 60 IN NSEC b. A MX RRSIG NSEC TYPE65280\n");
+    check_record("a. 60 IN LOC 42 21 54 N 71 06 18 W -24m 30m\n");
+    check_record("a. 60 IN HIP 2 200100107B1A74DF365639CC39F1D578 AwEAAbdx s. r.\n");
+    record.type_code = 65280;
+    data_len = sizeof data;
+    check_others(MOST_LONG);
     free(stack);
     return failures != 0;
 }

@@ -76,7 +76,7 @@ static void gives(const char *text, size_t length, uint32_t status, const char *
 static void is(size_t place, uint32_t ttl, uint16_t class_code, uint16_t type_code, const char *owner,
                size_t length, int line) {
     expect(record.place == place, "place", line);
-    expect(record.ttl == ttl, "time to live", line);
+    expect(record.ttl == ttl, "TTL", line);
     expect(record.class_code == class_code, "class", line);
     expect(record.type_code == type_code, "type", line);
     expect(named(&record.name, owner, length), "owner", line);
@@ -213,7 +213,7 @@ static void files(void) {
     gives(TEXT(text), DNSTEXT_INCLUDE, TEXT("a file"), __LINE__);
     is(0, 0, 0, 0, "", 0, __LINE__);
     gives(TEXT(text), DNSTEXT_INCLUDE, TEXT("b"), __LINE__);
-    IS(0, 0, 0, 0, "\3sub\7example\0");
+    IS(18, 0, 0, 0, "\3sub\7example\0");
     GIVES(text, "\300\0\2\1");
     ENDS(text);
 }
@@ -348,7 +348,7 @@ static void long_ttls(void) {
     IS(29, 0, 1, 1, "\1a\7example\0");
     ENDS(minimum);
     begin();
-    REFUSES("a 4294967296 A 192.0.2.1", DNSTEXT_BAD_HEAD, 2, "expected time to live");
+    REFUSES("a 4294967296 A 192.0.2.1", DNSTEXT_BAD_HEAD, 2, "expected TTL");
     begin();
     zone.has_default_ttl = true;
     zone.default_ttl = UINT32_C(2147483648);
@@ -404,7 +404,7 @@ static void refusals(void) {
     begin();
     REFUSES("  1 A 192.0.2.1", DNSTEXT_NO_OWNER, 2, "no owner");
     begin();
-    REFUSES("a A 192.0.2.1", DNSTEXT_NO_TTL, 0, "no time to live");
+    REFUSES("a A 192.0.2.1", DNSTEXT_NO_TTL, 0, "no TTL");
     begin();
     REFUSES("a..b 1 A 192.0.2.1\n 1 A 192.0.2.1", DNSTEXT_BAD_NAME, 0, "empty label");
     REFUSES("a..b 1 A 192.0.2.1\n 1 A 192.0.2.1", DNSTEXT_REFUSED_OWNER, 20, "the owner before is refused");
