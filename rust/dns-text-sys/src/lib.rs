@@ -125,11 +125,13 @@ pub struct dnstext_zone {
 }
 
 /// A record of a zone file, whose RDATA is in another buffer; or the origin of a file to include; or the
-/// place of a `$GENERATE` directive.
+/// offsets of a `$GENERATE` directive.
 #[repr(C)]
 #[derive(Clone, Copy, Debug, Default, PartialEq, Eq)]
 pub struct dnstext_record {
     pub place: usize,
+    pub data: usize,
+    pub end: usize,
     pub ttl: u32,
     pub class_code: u16,
     pub type_code: u16,
@@ -234,6 +236,38 @@ extern "C" {
         text_len: usize,
         outcome: *mut dnstext_outcome,
     ) -> u32;
+    pub fn dnstext_name_read_octets(
+        text: *const u8,
+        text_len: usize,
+        origin: *const u8,
+        origin_len: usize,
+        name: *mut u8,
+        name_len: usize,
+        outcome: *mut dnstext_outcome,
+    ) -> u32;
+    pub fn dnstext_name_canonical(
+        name: *const u8,
+        name_len: usize,
+        form: *mut u8,
+        form_len: usize,
+        outcome: *mut dnstext_outcome,
+    ) -> u32;
+    pub fn dnstext_name_compare(
+        a: *const u8,
+        a_len: usize,
+        b: *const u8,
+        b_len: usize,
+        order: *mut i32,
+        outcome: *mut dnstext_outcome,
+    ) -> u32;
+    pub fn dnstext_name_ends_with(
+        name: *const u8,
+        name_len: usize,
+        zone: *const u8,
+        zone_len: usize,
+        does: *mut bool,
+        outcome: *mut dnstext_outcome,
+    ) -> u32;
     pub fn dnstext_number_read(
         text: *const u8,
         text_len: usize,
@@ -287,6 +321,13 @@ extern "C" {
         origin_len: usize,
         octets: *mut u8,
         octets_len: usize,
+        outcome: *mut dnstext_outcome,
+    ) -> u32;
+    pub fn dnstext_text_data(
+        octets: *const u8,
+        octets_len: usize,
+        data: *mut u8,
+        data_len: usize,
         outcome: *mut dnstext_outcome,
     ) -> u32;
     pub fn dnstext_data_canonical(
@@ -354,6 +395,7 @@ extern "C" {
         piece: *mut dnstext_piece,
         outcome: *mut dnstext_outcome,
     ) -> u32;
+    pub fn dnstext_zone_init(zone: *mut dnstext_zone) -> u32;
     pub fn dnstext_zone_origin(
         zone: *mut dnstext_zone,
         name: *const u8,
@@ -369,6 +411,15 @@ extern "C" {
         octets_len: usize,
         outcome: *mut dnstext_outcome,
     ) -> u32;
+    pub fn dnstext_record_print(
+        record: *const dnstext_record,
+        data: *const u8,
+        data_len: usize,
+        text: *mut u8,
+        text_len: usize,
+        outcome: *mut dnstext_outcome,
+    ) -> u32;
+    pub fn dnstext_entries_len(text: *const u8, text_len: usize, whole: *mut usize) -> u32;
     pub fn dnstext_generate_entry(
         directive: *const u8,
         directive_len: usize,

@@ -46,3 +46,21 @@ pub(crate) fn print(call: dnstext_call, octets: &[u8], expected: usize) -> Strin
         Err(refused) => panic!("printing was refused: {}", Status(refused.status)),
     }
 }
+
+/// Makes a call with a buffer of the size that it needs. Returns its status, outcome and output.
+pub(crate) fn with_room(
+    expected: usize,
+    call: impl Fn(&mut [u8], &mut dnstext_outcome) -> u32,
+) -> (u32, dnstext_outcome, Vec<u8>) {
+    library::check();
+    let mut given = vec![0; expected];
+    loop {
+        let mut outcome = dnstext_outcome::default();
+        let status = call(&mut given, &mut outcome);
+        if status != DNSTEXT_NO_ROOM || outcome.length <= given.len() {
+            given.truncate(outcome.length);
+            return (status, outcome, given);
+        }
+        given.resize(outcome.length, 0);
+    }
+}

@@ -38,6 +38,13 @@ pub struct CharStr {
 
 impl CharStr {
     /// Returns the string with these octets. Fails if there are more than 255.
+    ///
+    /// ```
+    /// use dns_text::CharStr;
+    ///
+    /// assert_eq!(CharStr::from_octets(vec![0xFF]).unwrap().quoted(), r#""\255""#);
+    /// assert!(CharStr::try_from([0; 256].as_slice()).is_err());
+    /// ```
     pub fn from_octets(octets: Vec<u8>) -> Result<CharStr, LongString> {
         if octets.len() > 255 {
             return Err(LongString);
@@ -92,16 +99,19 @@ impl CharStr {
     }
 
     /// Returns the octets, without the length octet.
+    #[must_use]
     pub fn as_octets(&self) -> &[u8] {
         &self.octets
     }
 
     /// Returns the octets, without the length octet.
+    #[must_use]
     pub fn into_octets(self) -> Vec<u8> {
         self.octets
     }
 
     /// Returns whether two strings differ at most in the case of ASCII letters.
+    #[must_use]
     pub fn eq_ignore_ascii_case(&self, other: &CharStr) -> bool {
         self.octets.eq_ignore_ascii_case(&other.octets)
     }
@@ -123,6 +133,29 @@ impl CharStr {
 
 reads_strings! {
     CharStr: ReadError,
+}
+
+/// The string with these octets, as by [`CharStr::from_octets`].
+impl TryFrom<Vec<u8>> for CharStr {
+    type Error = LongString;
+
+    fn try_from(octets: Vec<u8>) -> Result<CharStr, LongString> {
+        CharStr::from_octets(octets)
+    }
+}
+
+/// The string with these octets, as by [`CharStr::from_octets`]; a text is parsed by [`CharStr::from_text`].
+impl TryFrom<&[u8]> for CharStr {
+    type Error = LongString;
+
+    fn try_from(octets: &[u8]) -> Result<CharStr, LongString> {
+        if octets.len() > 255 {
+            return Err(LongString);
+        }
+        Ok(CharStr {
+            octets: octets.to_vec(),
+        })
+    }
 }
 
 impl AsRef<[u8]> for CharStr {

@@ -46,6 +46,7 @@ pub const BASE64: Encoding = Encoding {
 
 impl Encoding {
     /// Returns the encoded octets.
+    #[must_use]
     pub fn print(self, octets: &[u8]) -> String {
         print(self.print, octets, 2 * octets.len() + 4)
     }

@@ -22,7 +22,7 @@ use std::fmt;
 /// assert!(directive.entry(3)?.is_none());
 /// # Ok::<(), Box<dyn std::error::Error>>(())
 /// ```
-#[derive(Clone, Debug, PartialEq, Eq)]
+#[derive(Clone, Debug, PartialEq, Eq, Hash)]
 pub struct Generate {
     /// Offset of its first token.
     pub place: usize,
@@ -31,7 +31,7 @@ pub struct Generate {
 }
 
 /// An entry of a `$GENERATE` directive.
-#[derive(Clone, Debug, PartialEq, Eq)]
+#[derive(Clone, Debug, PartialEq, Eq, Hash)]
 pub struct GeneratedEntry {
     /// Its number.
     pub number: u32,

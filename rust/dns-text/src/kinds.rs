@@ -18,7 +18,9 @@ use std::time::Duration;
 /// assert_eq!(Ttl::from_text(b"1h30m")?.seconds(), 5400);
 /// assert_eq!("1W2D".parse::<Ttl>()?.to_string(), "777600");
 /// assert!(Ttl::from_text(b"2147483648").is_err());
-/// # Ok::<(), dns_text::WordError>(())
+/// assert_eq!(u32::from(Ttl::try_from(60)?), 60);
+/// assert!(Ttl::try_from(1 << 31).is_err());
+/// # Ok::<(), Box<dyn std::error::Error>>(())
 /// ```
 #[derive(Clone, Copy, Debug, Default, PartialEq, Eq, PartialOrd, Ord, Hash)]
 pub struct Ttl(u32);
@@ -28,6 +30,7 @@ impl Ttl {
     pub const MAX: Ttl = Ttl(0x7FFF_FFFF);
 
     /// Returns the TTL of a number of seconds, if that is below 2^31.
+    #[must_use]
     pub fn from_seconds(seconds: u32) -> Option<Ttl> {
         (seconds <= Ttl::MAX.0).then_some(Ttl(seconds))
     }
@@ -38,10 +41,38 @@ impl Ttl {
         read(dnstext_ttl_read, text).map(Ttl)
     }
 
+    /// Returns the number of seconds.
+    #[must_use]
     pub fn seconds(self) -> u32 {
         self.0
     }
 }
+
+impl From<Ttl> for u32 {
+    fn from(ttl: Ttl) -> u32 {
+        ttl.0
+    }
+}
+
+impl TryFrom<u32> for Ttl {
+    type Error = LongTtl;
+
+    fn try_from(seconds: u32) -> Result<Ttl, LongTtl> {
+        Ttl::from_seconds(seconds).ok_or(LongTtl)
+    }
+}
+
+/// The error of a TTL of 2^31 seconds or more.
+#[derive(Clone, Copy, Debug, PartialEq, Eq)]
+pub struct LongTtl;
+
+impl fmt::Display for LongTtl {
+    fn fmt(&self, f: &mut fmt::Formatter<'_>) -> fmt::Result {
+        f.pad("TTL exceeds 2147483647 seconds")
+    }
+}
+
+impl Error for LongTtl {}
 
 impl From<Ttl> for Duration {
     fn from(ttl: Ttl) -> Duration {
@@ -64,30 +95,16 @@ impl fmt::Display for Ttl {
 /// assert_eq!(RecordType::from_text(b"type15")?, RecordType::MX);
 /// assert_eq!("aaaa".parse::<RecordType>()?.to_string(), "AAAA");
 /// assert_eq!(RecordType(65280).to_string(), "TYPE65280");
+/// assert_eq!(format!("{:?}", RecordType::HTTPS), "RecordType(HTTPS)");
+/// assert_eq!((RecordType::from(15), u16::from(RecordType::MX)), (RecordType::MX, 15));
 /// let error = RecordType::from_text(b"CNMAE").unwrap_err();
 /// assert_eq!(error.to_string(), "unknown record type at 0");
 /// # Ok::<(), dns_text::WordError>(())
 /// ```
-#[derive(Clone, Copy, Debug, PartialEq, Eq, PartialOrd, Ord, Hash)]
+#[derive(Clone, Copy, PartialEq, Eq, PartialOrd, Ord, Hash)]
 pub struct RecordType(pub u16);
 
 impl RecordType {
-    pub const A: RecordType = RecordType(1);
-    pub const NS: RecordType = RecordType(2);
-    pub const CNAME: RecordType = RecordType(5);
-    pub const SOA: RecordType = RecordType(6);
-    pub const PTR: RecordType = RecordType(12);
-    pub const MX: RecordType = RecordType(15);
-    pub const TXT: RecordType = RecordType(16);
-    pub const AAAA: RecordType = RecordType(28);
-    pub const SRV: RecordType = RecordType(33);
-    pub const DNAME: RecordType = RecordType(39);
-    pub const DS: RecordType = RecordType(43);
-    pub const RRSIG: RecordType = RecordType(46);
-    pub const NSEC: RecordType = RecordType(47);
-    pub const DNSKEY: RecordType = RecordType(48);
-    pub const CAA: RecordType = RecordType(257);
-
     /// Parses a word: a name of the registry, or `TYPE` and the code, in any case of the letters.
     pub fn from_text(text: &[u8]) -> Result<RecordType, WordError> {
         read(dnstext_type_read, text).map(RecordType)
@@ -100,6 +117,13 @@ impl fmt::Display for RecordType {
     }
 }
 
+/// Shows the name, as it displays.
+impl fmt::Debug for RecordType {
+    fn fmt(&self, f: &mut fmt::Formatter<'_>) -> fmt::Result {
+        write!(f, "RecordType({self})")
+    }
+}
+
 /// A class, by its code. It displays as `IN`, `CH` or `HS`, and otherwise as `CLASS` and the code
 /// (RFC 3597 section 5).
 ///
@@ -109,14 +133,19 @@ impl fmt::Display for RecordType {
 /// assert_eq!(Class::from_text(b"in")?, Class::IN);
 /// assert_eq!(Class::from_text(b"CLASS3")?.to_string(), "CH");
 /// assert_eq!(Class(254).to_string(), "CLASS254");
+/// assert_eq!(format!("{:?}", Class::CH), "Class(CH)");
+/// assert_eq!((Class::from(1), u16::from(Class::IN)), (Class::IN, 1));
 /// # Ok::<(), dns_text::WordError>(())
 /// ```
-#[derive(Clone, Copy, Debug, PartialEq, Eq, PartialOrd, Ord, Hash)]
+#[derive(Clone, Copy, PartialEq, Eq, PartialOrd, Ord, Hash)]
 pub struct Class(pub u16);
 
 impl Class {
+    /// The Internet (RFC 1035 section 3.2.4).
     pub const IN: Class = Class(1);
+    /// Chaos (RFC 1035 section 3.2.4).
     pub const CH: Class = Class(3);
+    /// Hesiod (RFC 1035 section 3.2.4).
     pub const HS: Class = Class(4);
 
     /// Parses a word: `IN`, `CH`, `HS`, or `CLASS` and the code, in any case of the letters.
@@ -129,6 +158,35 @@ impl fmt::Display for Class {
     fn fmt(&self, f: &mut fmt::Formatter<'_>) -> fmt::Result {
         print(dnstext_class_print, self.0, f)
     }
+}
+
+/// Shows the name, as it displays.
+impl fmt::Debug for Class {
+    fn fmt(&self, f: &mut fmt::Formatter<'_>) -> fmt::Result {
+        write!(f, "Class({self})")
+    }
+}
+
+/// Implements the conversions of a code.
+macro_rules! codes {
+    ($($code:ident,)*) => {$(
+        impl From<u16> for $code {
+            fn from(code: u16) -> $code {
+                $code(code)
+            }
+        }
+
+        impl From<$code> for u16 {
+            fn from(code: $code) -> u16 {
+                code.0
+            }
+        }
+    )*};
+}
+
+codes! {
+    RecordType,
+    Class,
 }
 
 reads_strings! {

@@ -88,11 +88,20 @@ impl FusedIterator for Labels<'_> {}
 
 impl Name {
     /// Returns the root: the absolute name without labels.
+    ///
+    /// ```
+    /// use dns_text::Name;
+    ///
+    /// assert_eq!(Name::root().as_octets(), [0]);
+    /// assert_eq!(Name::root().to_string(), ".");
+    /// ```
+    #[must_use]
     pub fn root() -> Name {
         Name::of_valid(vec![0])
     }
 
     /// Returns whether the name is the root.
+    #[must_use]
     pub fn is_root(&self) -> bool {
         self.as_octets() == [0]
     }
@@ -110,6 +119,7 @@ impl Name {
     /// assert_eq!(Name::root().labels().len(), 0);
     /// # Ok::<(), dns_text::NameError>(())
     /// ```
+    #[must_use]
     pub fn labels(&self) -> Labels<'_> {
         Labels::of(self.as_octets())
     }
@@ -124,6 +134,7 @@ impl Name {
     /// assert_eq!(Name::root().parent(), None);
     /// # Ok::<(), dns_text::NameError>(())
     /// ```
+    #[must_use]
     pub fn parent(&self) -> Option<Name> {
         let first = self.labels().next()?;
         Some(Name::of_valid(self.as_octets()[first.len() + 1..].to_vec()))
@@ -140,6 +151,7 @@ impl Name {
     /// assert!(!name.starts_with(&"w".parse()?));
     /// # Ok::<(), dns_text::NameError>(())
     /// ```
+    #[must_use]
     pub fn starts_with(&self, start: &Name) -> bool {
         let octets = self.as_octets().get(..start.as_octets().len());
         octets.is_some_and(|octets| Lowered(octets) == Lowered(start.as_octets()))
@@ -158,6 +170,7 @@ impl Name {
     /// assert!(!name.ends_with(&"example".parse()?));
     /// # Ok::<(), dns_text::NameError>(())
     /// ```
+    #[must_use]
     pub fn ends_with(&self, end: &Name) -> bool {
         let (octets, end) = (self.as_octets(), end.as_octets());
         let Some(place) = octets.len().checked_sub(end.len()) else {
@@ -202,6 +215,7 @@ impl Name {
 
     /// Returns the name with its ASCII letters in lower case, which is its canonical form (RFC 4034
     /// section 6.2).
+    #[must_use]
     pub fn to_lowercase(&self) -> Name {
         Name::of_valid(self.as_octets().to_ascii_lowercase())
     }

@@ -24,7 +24,8 @@
 //! | also comments and ends of entries, or without memory | [`pieces`] | none |
 //! | records of a file or a stream | [`read_records`] | a chunk, the longest entry twice, the RDATA |
 //! | entries of a file or a stream | [`read_entries`] | the same, and each entry |
-//! | records of a file and of those that it includes | [`RecordReader::follow_includes`] | the same, for each open file |
+//! | records of a file and of those that it includes | [`read_zone`] | the same, for each open file |
+//! | the same, where a function opens the files | [`RecordReader::follow_includes`] | the same, for each open file |
 //!
 //! [`tokens`], [`entries`] and [`pieces`] return what comes before the first syntax error, and then the
 //! error. The others continue after its line. An error has an offset (`place`). [`Fault::locate`] and
@@ -124,20 +125,23 @@ mod labels;
 mod library;
 mod lowered;
 mod name;
+mod name_octets;
 mod number;
 mod pieces;
 mod position;
 mod records;
 mod scan;
+mod sets;
 mod status;
 mod stream;
 mod strings;
+mod types;
 mod zone;
 
 pub use char_str::{CharStr, LongString, ReadError, ReadErrorKind};
-pub use data::{BadData, RecordData};
+pub use data::{BadData, BadDataReason, RecordData, SvcParam};
 pub use generate::{Generate, GenerateFault, GenerateFaultKind, GeneratedEntry};
-pub use kinds::{Class, RecordType, Ttl, WordError, WordErrorKind};
+pub use kinds::{Class, LongTtl, RecordType, Ttl, WordError, WordErrorKind};
 pub use labels::Labels;
 pub use library::version;
 pub use name::{Name, NameError, NameErrorKind, NameOctetsError};
@@ -147,9 +151,15 @@ pub use position::{position, Position, Positions};
 pub use records::{
     records, Record, RecordFault, RecordFaultKind, Records, RelativeOrigin, RelativeOwner, ZoneItem,
 };
+pub use sets::{record_sets, RecordSet};
 pub use status::Status;
 pub use stream::{
-    read_entries, read_records, EntryReader, FollowError, FollowErrorKind, FollowedRecords,
-    OwnedEntry, RecordReader, StreamError, TextReader,
+    read_entries, read_records, read_zone, EntryReader, FollowError, FollowErrorKind,
+    FollowedRecords, OwnedEntry, RecordReader, StreamError, TextReader, ZoneRecords,
 };
 pub use zone::{entries, tokens, Entries, Entry, Fault, FaultKind, Token, Tokens};
+
+/// The example of README.md.
+#[cfg(doctest)]
+#[doc = include_str!("../README.md")]
+struct Readme;

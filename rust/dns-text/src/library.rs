@@ -6,6 +6,7 @@ use std::sync::Once;
 static CHECKED: Once = Once::new();
 
 /// Returns the version of the linked library.
+#[must_use]
 pub fn version() -> &'static str {
     // SAFETY: the string has a terminator, and lives as long as the program.
     unsafe { string(dnstext_version()) }

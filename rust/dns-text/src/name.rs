@@ -3,6 +3,7 @@ use crate::call::{give, print};
 use crate::labels::Labels;
 use crate::library;
 use crate::lowered::Lowered;
+use crate::name_octets::NameOctets;
 use crate::status::reasons;
 use crate::strings::reads_strings;
 use dns_text_sys::{
@@ -37,12 +38,13 @@ use std::hash::{Hash, Hasher};
 /// assert_eq!(name, r"action\.domains.isi.edu.".parse()?);
 /// assert_eq!(format!("{name:?}"), r"Name(Action\.domains.ISI.EDU.)");
 /// assert!("example.".parse::<Name>()? < "a.example.".parse()?);
-/// # Ok::<(), dns_text::NameError>(())
+/// assert_eq!(Name::try_from(b"\x03ISI\x03EDU\0".as_slice())?.into_iter().len(), 2);
+/// assert_eq!(Name::default(), ".".parse()?);
+/// # Ok::<(), Box<dyn std::error::Error>>(())
 /// ```
 #[derive(Clone)]
 pub struct Name {
-    octets: Vec<u8>,
-    is_absolute: bool,
+    octets: NameOctets,
 }
 
 impl Name {
@@ -78,8 +80,7 @@ impl Name {
             });
         }
         Ok(Name {
-            octets: octets[..outcome.length].to_vec(),
-            is_absolute,
+            octets: NameOctets::copy(&octets[..outcome.length], is_absolute),
         })
     }
 
@@ -93,13 +94,25 @@ impl Name {
     /// assert_eq!(error, NameOctetsError::ShortInput);
     /// ```
     pub fn from_octets(octets: Vec<u8>) -> Result<Name, NameOctetsError> {
-        if is_name(&octets) {
-            return Ok(Name::of_valid(octets));
-        }
-        // The library says why not.
-        match give(dnstext_name_print, &octets, 0) {
-            Ok(_) => Ok(Name::of_valid(octets)),
-            Err(refused) => Err(NameOctetsError::of(refused.status)),
+        let is_absolute = check_octets(&octets)?;
+        Ok(Name {
+            octets: NameOctets::of(octets, is_absolute),
+        })
+    }
+
+    /// Returns the name with this wire format.
+    pub(crate) fn from_slice(octets: &[u8]) -> Result<Name, NameOctetsError> {
+        let is_absolute = check_octets(octets)?;
+        Ok(Name {
+            octets: NameOctets::copy(octets, is_absolute),
+        })
+    }
+
+    /// Returns the absolute name of octets that are known to be one.
+    #[inline]
+    pub(crate) fn of_absolute(octets: &[u8]) -> Name {
+        Name {
+            octets: NameOctets::copy(octets, true),
         }
     }
 
@@ -107,24 +120,26 @@ impl Name {
     pub(crate) fn of_valid(octets: Vec<u8>) -> Name {
         let is_absolute = ends_in_root(&octets);
         Name {
-            octets,
-            is_absolute,
+            octets: NameOctets::of(octets, is_absolute),
         }
     }
 
     /// Returns whether the name is absolute: whether it ends in the root.
+    #[must_use]
     pub fn is_absolute(&self) -> bool {
-        self.is_absolute
+        self.octets.is_absolute()
     }
 
     /// Returns the wire format.
+    #[must_use]
     pub fn as_octets(&self) -> &[u8] {
-        &self.octets
+        self.octets.as_slice()
     }
 
     /// Returns the wire format.
+    #[must_use]
     pub fn into_octets(self) -> Vec<u8> {
-        self.octets
+        self.octets.into_vec()
     }
 
     /// Returns the labels joined by dots, with a dot at the end of an absolute name, as `domain` prints
@@ -156,27 +171,35 @@ impl Name {
     }
 
     fn printed(&self, call: dnstext_call) -> String {
-        print(call, &self.octets, self.octets.len() + 1)
+        let octets = self.as_octets();
+        print(call, octets, octets.len() + 1)
     }
 }
 
-/// Returns whether octets are a name: labels of 1 to 63 octets, with or without the root at the end, and
-/// at most 255 octets with the root.
-fn is_name(octets: &[u8]) -> bool {
+/// Returns whether a name with this wire format is absolute: labels of 1 to 63 octets, with or without the root
+/// at the end, and at most 255 octets with the root.
+fn check_octets(octets: &[u8]) -> Result<bool, NameOctetsError> {
     let mut rest = octets;
     while let Some((length, after)) = rest.split_first() {
-        if *length == 0 {
-            return after.is_empty() && octets.len() <= 255;
+        if *length == 0 && after.is_empty() && octets.len() <= 255 {
+            return Ok(true);
         }
-        let Some(behind) = after.get(usize::from(*length)..) else {
-            return false;
-        };
-        if *length > 63 {
-            return false;
+        match after.get(usize::from(*length)..) {
+            Some(next) if (1..64).contains(length) => rest = next,
+            _ => return Err(octets_error(octets)),
         }
-        rest = behind;
     }
-    octets.len() <= 254
+    if octets.len() > 254 {
+        return Err(octets_error(octets));
+    }
+    Ok(false)
+}
+
+/// Returns why octets are not a name, as the library reports it.
+#[cold]
+fn octets_error(octets: &[u8]) -> NameOctetsError {
+    let status = give(dnstext_name_print, octets, 0).err();
+    NameOctetsError::of(status.map_or(u32::MAX, |refused| refused.status))
 }
 
 /// Returns whether the labels of a name's octets end in the root.
@@ -195,17 +218,52 @@ reads_strings! {
     Name: NameError,
 }
 
+/// The name with this wire format, as by [`Name::from_octets`].
+impl TryFrom<Vec<u8>> for Name {
+    type Error = NameOctetsError;
+
+    fn try_from(octets: Vec<u8>) -> Result<Name, NameOctetsError> {
+        Name::from_octets(octets)
+    }
+}
+
+/// The name with this wire format, as by [`Name::from_octets`]; a text is parsed by [`Name::from_text`].
+impl TryFrom<&[u8]> for Name {
+    type Error = NameOctetsError;
+
+    fn try_from(octets: &[u8]) -> Result<Name, NameOctetsError> {
+        Name::from_slice(octets)
+    }
+}
+
+/// The root.
+impl Default for Name {
+    fn default() -> Name {
+        Name::root()
+    }
+}
+
+/// The labels, as by [`Name::labels`].
+impl<'n> IntoIterator for &'n Name {
+    type Item = &'n [u8];
+    type IntoIter = Labels<'n>;
+
+    fn into_iter(self) -> Labels<'n> {
+        self.labels()
+    }
+}
+
 /// The wire octets.
 impl AsRef<[u8]> for Name {
     fn as_ref(&self) -> &[u8] {
-        &self.octets
+        self.as_octets()
     }
 }
 
 // A label's length is at most 63, and so no letter: lowered octets are the lowered labels.
 impl PartialEq for Name {
     fn eq(&self, other: &Name) -> bool {
-        Lowered(&self.octets) == Lowered(&other.octets)
+        Lowered(self.as_octets()) == Lowered(other.as_octets())
     }
 }
 
@@ -219,15 +277,15 @@ impl PartialOrd for Name {
 
 impl Ord for Name {
     fn cmp(&self, other: &Name) -> Ordering {
-        let labels = |name| Labels::of(name).rev().map(Lowered);
-        let by_root = other.is_absolute.cmp(&self.is_absolute);
-        by_root.then_with(|| labels(&self.octets).cmp(labels(&other.octets)))
+        let labels = |octets| Labels::of(octets).rev().map(Lowered);
+        let by_root = other.is_absolute().cmp(&self.is_absolute());
+        by_root.then_with(|| labels(self.as_octets()).cmp(labels(other.as_octets())))
     }
 }
 
 impl Hash for Name {
     fn hash<H: Hasher>(&self, state: &mut H) {
-        Lowered(&self.octets).hash(state);
+        Lowered(self.as_octets()).hash(state);
     }
 }
 

@@ -10,8 +10,9 @@ use std::iter::FusedIterator;
 use std::ptr;
 
 /// The kind of a piece.
-#[derive(Clone, Copy, Debug, PartialEq, Eq)]
+#[derive(Clone, Copy, Debug, PartialEq, Eq, Hash)]
 pub enum PieceKind {
+    /// A token without double quotes.
     Word,
     /// A quoted string with its double quotes.
     Quoted,
@@ -34,8 +35,9 @@ impl PieceKind {
 }
 
 /// A piece of a zone file.
-#[derive(Clone, Copy, Debug, PartialEq, Eq)]
+#[derive(Clone, Copy, Debug, PartialEq, Eq, Hash)]
 pub struct Piece<'t> {
+    /// Its kind.
     pub kind: PieceKind,
     /// Offset of its first octet.
     pub start: usize,
@@ -65,6 +67,7 @@ pub struct Piece<'t> {
 /// assert!(found.next().is_none());
 /// # Ok::<(), dns_text::Fault>(())
 /// ```
+#[must_use]
 pub fn pieces(text: &[u8]) -> Pieces<'_> {
     library::check();
     Pieces {

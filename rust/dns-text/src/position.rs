@@ -21,6 +21,7 @@ pub struct Position {
 /// assert_eq!(position(b"a\nbc", 3).unwrap().to_string(), "2:2");
 /// assert_eq!(position(b"a\nbc", 5), None);
 /// ```
+#[must_use]
 pub fn position(text: &[u8], place: usize) -> Option<Position> {
     library::check();
     let (mut line, mut column) = (0, 0);
@@ -56,6 +57,7 @@ pub struct Positions<'t> {
 
 impl<'t> Positions<'t> {
     /// Returns the positions of a text, from its start.
+    #[must_use]
     pub fn new(text: &'t [u8]) -> Positions<'t> {
         library::check();
         Positions {

@@ -1,36 +1,141 @@
 //! The records of zone files.
+use crate::call::with_room;
 use crate::data::RecordData;
 use crate::generate::Generate;
 use crate::library;
 use crate::status::reasons;
 use crate::stream::{FollowedRecords, RecordReader, TextReader};
-use crate::{entries, position, Class, Name, Position, Positions, RecordType, Ttl};
+use crate::{position, Class, Name, Position, Positions, RecordType, Ttl};
 use dns_text_sys::{
-    dnstext_kept_name, dnstext_outcome, dnstext_record, dnstext_record_next, dnstext_zone,
-    dnstext_zone_origin, DNSTEXT_END, DNSTEXT_GENERATE, DNSTEXT_INCLUDE, DNSTEXT_NO_ROOM,
-    DNSTEXT_OK,
+    dnstext_kept_name, dnstext_outcome, dnstext_record, dnstext_record_next, dnstext_record_print,
+    dnstext_zone, dnstext_zone_origin, DNSTEXT_END, DNSTEXT_GENERATE, DNSTEXT_INCLUDE,
+    DNSTEXT_NO_ROOM, DNSTEXT_OK,
 };
+use std::cmp::Ordering;
 use std::error::Error;
 use std::fmt;
+use std::hash::{Hash, Hasher};
 use std::iter::FusedIterator;
 
 /// A record of a zone file.
-#[derive(Clone, Debug, PartialEq, Eq)]
+///
+/// It displays on one line, as by `zonetext records`: owner, TTL, class, type and RDATA, with a space between. With a
+/// line feed after it, this line is read back as that record. A record with values that the library doesn't print,
+/// such as a relative owner, displays its parts.
+///
+/// Records are compared, sorted and hashed by owner, class, type and RDATA, and then TTL, without their offsets:
+/// by names and RDATA in canonical form and order (RFC 4034 section 6). So the records of a zone in order are
+/// those of each RRset together, and [`dedup`](Vec::dedup) removes repetitions.
+///
+/// ```
+/// use dns_text::{records, ZoneItem};
+///
+/// let zone = b"$ORIGIN example.\n@ 1H IN MX 010 mail\n";
+/// let Some(Ok(ZoneItem::Record(record))) = records(zone).next() else { panic!() };
+/// assert_eq!(record.to_string(), "example. 3600 IN MX 10 mail.example.");
+///
+/// let zone = b"b. 1 MX 2 m.\na. 2 A 192.0.2.1\nB. 1 MX 2 M.\na. 1 A 192.0.2.1\n";
+/// let mut found = Vec::new();
+/// for item in records(zone) {
+///     if let ZoneItem::Record(record) = item? {
+///         found.push(record);
+///     }
+/// }
+/// found.sort();
+/// found.dedup();
+/// let places: Vec<_> = found.iter().map(|record| record.place).collect();
+/// assert_eq!(places, [43, 13, 0]);
+/// # Ok::<(), dns_text::RecordFault>(())
+/// ```
+#[derive(Clone, Debug)]
 pub struct Record {
     /// Offset of its first token.
     pub place: usize,
+    /// The owner, an absolute name.
     pub owner: Name,
     /// Its own TTL; or else that of `$TTL`; or else the last one of a record; or else, for an SOA, its
     /// minimum (RFC 1035 section 5.1, RFC 2308 section 4). A TTL of 2^31 seconds or more in the text is 0
     /// (RFC 2181 section 8).
     pub ttl: Ttl,
+    /// The class.
     pub class: Class,
+    /// The RDATA, which have the type.
     pub data: RecordData,
 }
 
 impl Record {
+    /// Returns the type.
+    #[must_use]
     pub fn record_type(&self) -> RecordType {
         self.data.record_type()
+    }
+
+    /// Returns the line that the library prints, or `None` if it rejects the record.
+    fn line(&self) -> Option<String> {
+        let octets = self.data.to_octets().ok()?;
+        let record = dnstext_record {
+            ttl: self.ttl.seconds(),
+            class_code: self.class.0,
+            type_code: self.record_type().0,
+            name: kept(&self.owner),
+            ..dnstext_record::default()
+        };
+        let expected = 4 * (self.owner.as_octets().len() + octets.len()) + 64;
+        let (status, _, text) = with_room(expected, |into, outcome| {
+            // SAFETY: the pointers and lengths are those of a struct and of slices, and the call stays within them.
+            unsafe {
+                dnstext_record_print(
+                    &record,
+                    octets.as_ptr(),
+                    octets.len(),
+                    into.as_mut_ptr(),
+                    into.len(),
+                    outcome,
+                )
+            }
+        });
+        (status == DNSTEXT_OK).then(|| String::from_utf8_lossy(&text).into_owned())
+    }
+
+    /// Returns what is compared, in order.
+    fn key(&self) -> (&Name, Class, &RecordData, Ttl) {
+        (&self.owner, self.class, &self.data, self.ttl)
+    }
+}
+
+impl fmt::Display for Record {
+    fn fmt(&self, f: &mut fmt::Formatter<'_>) -> fmt::Result {
+        let parts = || {
+            let (owner, ttl, class) = (&self.owner, self.ttl, self.class);
+            format!("{owner} {ttl} {class} {} {}", self.record_type(), self.data)
+        };
+        f.pad(&self.line().unwrap_or_else(parts))
+    }
+}
+
+impl PartialEq for Record {
+    fn eq(&self, other: &Record) -> bool {
+        self.key() == other.key()
+    }
+}
+
+impl Eq for Record {}
+
+impl PartialOrd for Record {
+    fn partial_cmp(&self, other: &Record) -> Option<Ordering> {
+        Some(self.cmp(other))
+    }
+}
+
+impl Ord for Record {
+    fn cmp(&self, other: &Record) -> Ordering {
+        self.key().cmp(&other.key())
+    }
+}
+
+impl Hash for Record {
+    fn hash<H: Hasher>(&self, state: &mut H) {
+        self.key().hash(state);
     }
 }
 
@@ -38,6 +143,7 @@ impl Record {
 #[derive(Clone, Debug, PartialEq, Eq)]
 #[non_exhaustive]
 pub enum ZoneItem {
+    /// A record.
     Record(Record),
     /// `$INCLUDE`: the offset of the directive, the name of a file as in the text, and its origin, if there
     /// is one. The caller reads the file, with [`Records::include`]; or [`Records::follow_includes`] does.
@@ -53,26 +159,12 @@ pub enum ZoneItem {
 }
 
 impl ZoneItem {
-    /// Returns the item with the offsets of a text that begins at the offset `before`.
-    pub(crate) fn behind(self, before: usize) -> ZoneItem {
+    /// Changes its offset to that in a text that begins at the offset `before`.
+    pub(crate) fn move_behind(&mut self, before: usize) {
         match self {
-            ZoneItem::Record(record) => ZoneItem::Record(Record {
-                place: before + record.place,
-                ..record
-            }),
-            ZoneItem::Include {
-                place,
-                file,
-                origin,
-            } => ZoneItem::Include {
-                place: before + place,
-                file,
-                origin,
-            },
-            ZoneItem::Generate(directive) => ZoneItem::Generate(Generate {
-                place: before + directive.place,
-                ..directive
-            }),
+            ZoneItem::Record(Record { place, .. })
+            | ZoneItem::Include { place, .. }
+            | ZoneItem::Generate(Generate { place, .. }) => *place += before,
         }
     }
 }
@@ -91,11 +183,13 @@ pub struct RecordFault {
 impl RecordFault {
     /// Returns line and column of the error in its text, or `None` if the text is shorter. The time is
     /// linear in the offset: for all errors of a text use [`Records::locate`] or [`Positions`].
+    #[must_use]
     pub fn locate(&self, text: &[u8]) -> Option<Position> {
         position(text, self.place)
     }
 
     /// Returns the message, without the offset: the reason, if there is one.
+    #[must_use]
     pub fn message(&self) -> &str {
         if self.reason.is_empty() {
             return self.kind.status().message();
@@ -113,14 +207,7 @@ impl RecordFault {
 
     /// Returns whether this is a syntax error, and not a rejected entry.
     pub(crate) fn is_of_text(&self) -> bool {
-        matches!(
-            self.kind,
-            RecordFaultKind::BadEscape
-                | RecordFaultKind::Closing
-                | RecordFaultKind::OpenParenthesis
-                | RecordFaultKind::OpenQuote
-                | RecordFaultKind::LoneReturn
-        )
+        self.kind.is_of_text()
     }
 
     /// Returns whether the status is unknown; the library then did not advance.
@@ -160,6 +247,20 @@ reasons! {
         NoTtl = DNSTEXT_NO_TTL,
         /// An origin that is a relative name.
         RelativeOrigin = DNSTEXT_RELATIVE_NAME,
+    }
+}
+
+impl RecordFaultKind {
+    /// Returns whether this is a syntax error.
+    fn is_of_text(self) -> bool {
+        matches!(
+            self,
+            RecordFaultKind::BadEscape
+                | RecordFaultKind::Closing
+                | RecordFaultKind::OpenParenthesis
+                | RecordFaultKind::OpenQuote
+                | RecordFaultKind::LoneReturn
+        )
     }
 }
 
@@ -218,6 +319,7 @@ impl Error for RelativeOwner {}
 /// assert!(found.next().is_none());
 /// # Ok::<(), Box<dyn std::error::Error>>(())
 /// ```
+#[must_use]
 pub fn records(text: &[u8]) -> Records<'_> {
     Records {
         text,
@@ -244,12 +346,14 @@ impl<'t> Records<'t> {
     }
 
     /// Sets the class of records without one.
+    #[must_use]
     pub fn with_class(mut self, class: Class) -> Self {
         self.state.set_class(class);
         self
     }
 
     /// Sets the default TTL, as `$TTL` does (RFC 2308 section 4).
+    #[must_use]
     pub fn with_default_ttl(mut self, ttl: Ttl) -> Self {
         self.state.set_default_ttl(ttl);
         self
@@ -263,6 +367,7 @@ impl<'t> Records<'t> {
     }
 
     /// Returns the origin that applies to the next entry, if there is one.
+    #[must_use]
     pub fn origin(&self) -> Option<Name> {
         self.state.origin()
     }
@@ -325,6 +430,7 @@ impl<'t> Records<'t> {
     /// assert!(found.next().is_none());
     /// # Ok::<(), Box<dyn std::error::Error>>(())
     /// ```
+    #[must_use]
     pub fn follow_includes<F, T, E>(mut self, read: F) -> FollowedRecords<TextReader<'t>, F>
     where
         F: FnMut(&[u8]) -> Result<T, E>,
@@ -343,6 +449,7 @@ impl<'t> Records<'t> {
     }
 
     /// Returns the offset of the next entry.
+    #[must_use]
     pub fn place(&self) -> usize {
         self.state.zone.at
     }
@@ -376,6 +483,8 @@ impl FusedIterator for Records<'_> {}
 #[derive(Clone, Debug)]
 pub(crate) struct ZoneState {
     zone: dnstext_zone,
+    /// The last record.
+    record: dnstext_record,
     octets: Vec<u8>,
 }
 
@@ -388,6 +497,7 @@ impl ZoneState {
                 class_code: Class::IN.0,
                 ..dnstext_zone::default()
             },
+            record: dnstext_record::default(),
             octets: vec![0; 512],
         }
     }
@@ -464,12 +574,12 @@ impl ZoneState {
         self.zone = kept;
     }
 
-    /// Reads the first item of a text that follows what was read. Returns it, and the offset of the next
-    /// entry.
-    pub(crate) fn read(&mut self, text: &[u8]) -> (Option<Result<ZoneItem, RecordFault>>, usize) {
+    /// Reads up to the first item of a text that follows what was read. Returns what the library did, and the offset of
+    /// the next entry.
+    pub(crate) fn step(&mut self, text: &[u8]) -> (Step, usize) {
         self.zone.at = 0;
-        let found = self.next(text);
-        (found, self.zone.at)
+        let (status, outcome) = self.call(text);
+        (Step { status, outcome }, self.zone.at)
     }
 
     /// Reads an entry of a `$GENERATE` directive. Of its state only the TTLs stay.
@@ -489,41 +599,49 @@ impl ZoneState {
 
     /// Reads the next item of a text.
     fn next(&mut self, text: &[u8]) -> Option<Result<ZoneItem, RecordFault>> {
-        let mut record = dnstext_record::default();
-        let start = self.zone.at;
-        let (status, outcome) = self.call(text, &mut record);
+        let (status, outcome) = self.call(text);
+        self.item(Step { status, outcome }, text)
+    }
+
+    /// Returns the item of what the library did last.
+    #[inline]
+    pub(crate) fn item(&self, step: Step, text: &[u8]) -> Option<Result<ZoneItem, RecordFault>> {
+        let Step { status, outcome } = step;
         let given = self.octets.get(..outcome.length).unwrap_or_default();
-        match (status, name_of(&record.name)) {
-            (DNSTEXT_END, _) => None,
-            (DNSTEXT_OK, Some(owner)) => Some(Ok(ZoneItem::Record(Record {
+        let record = &self.record;
+        Some(Ok(match status {
+            DNSTEXT_END => return None,
+            DNSTEXT_OK => ZoneItem::Record(Record {
                 place: record.place,
-                owner,
+                owner: name_of(&record.name).unwrap_or_default(),
                 ttl: Ttl::from_seconds(record.ttl).unwrap_or(Ttl::MAX),
                 class: Class(record.class_code),
                 data: RecordData::of_read(RecordType(record.type_code), given),
-            }))),
-            (DNSTEXT_INCLUDE, origin) => Some(Ok(ZoneItem::Include {
-                place: start + last_entry(text.get(start..self.zone.at).unwrap_or_default()),
+            }),
+            DNSTEXT_INCLUDE => ZoneItem::Include {
+                place: record.place,
                 file: given.to_vec(),
-                origin,
-            })),
-            (DNSTEXT_GENERATE, _) => Some(Ok(ZoneItem::Generate(Generate {
+                origin: name_of(&record.name),
+            },
+            DNSTEXT_GENERATE => ZoneItem::Generate(Generate {
                 place: record.place,
                 text: text
                     .get(record.place..self.zone.at)
                     .unwrap_or_default()
                     .to_vec(),
-            }))),
-            (status, _) => Some(Err(RecordFault {
-                kind: RecordFaultKind::of(status),
-                place: outcome.place,
-                reason: String::from_utf8_lossy(given).into_owned(),
-            })),
-        }
+            }),
+            status => {
+                return Some(Err(RecordFault {
+                    kind: RecordFaultKind::of(status),
+                    place: outcome.place,
+                    reason: String::from_utf8_lossy(given).into_owned(),
+                }))
+            }
+        }))
     }
 
     /// Makes a call with a buffer of the size that it needs. Returns its status and outcome.
-    fn call(&mut self, text: &[u8], record: &mut dnstext_record) -> (u32, dnstext_outcome) {
+    fn call(&mut self, text: &[u8]) -> (u32, dnstext_outcome) {
         loop {
             let mut outcome = dnstext_outcome::default();
             // SAFETY: the pointers and lengths are those of two slices, and the call stays within them.
@@ -532,7 +650,7 @@ impl ZoneState {
                     text.as_ptr(),
                     text.len(),
                     &mut self.zone,
-                    record,
+                    &mut self.record,
                     self.octets.as_mut_ptr(),
                     self.octets.len(),
                     &mut outcome,
@@ -546,13 +664,23 @@ impl ZoneState {
     }
 }
 
-/// Returns the offset of the last entry that has tokens.
-fn last_entry(text: &[u8]) -> usize {
-    let found = entries(text).filter_map(|entry| Some(entry.ok()?.tokens.first()?.start));
-    found.last().unwrap_or(0)
+/// Status and outcome of a call. The item is made once they are known to be final.
+#[derive(Clone, Copy)]
+pub(crate) struct Step {
+    status: u32,
+    outcome: dnstext_outcome,
 }
 
-/// Returns an absolute name as the library keeps it.
+impl Step {
+    /// Returns whether the item is final, whatever octets follow the text. `at` is the offset at which reading
+    /// continues.
+    pub(crate) fn is_settled(self, at: usize, text: &[u8]) -> bool {
+        let is_syntax_error = || RecordFaultKind::of(self.status).is_of_text();
+        at < text.len() || (self.outcome.place < text.len() && is_syntax_error())
+    }
+}
+
+/// Returns a name as the library keeps an absolute one.
 fn kept(name: &Name) -> dnstext_kept_name {
     let mut kept = dnstext_kept_name::default();
     let octets = name.as_octets();
@@ -561,10 +689,10 @@ fn kept(name: &Name) -> dnstext_kept_name {
     kept
 }
 
-/// Returns the name that the library wrote, if there is one.
+/// Returns the absolute name that the library wrote, if there is one.
 fn name_of(name: &dnstext_kept_name) -> Option<Name> {
-    let octets = name.octets.get(..name.length)?;
-    Name::from_octets(octets.to_vec())
-        .ok()
-        .filter(Name::is_absolute)
+    match name.octets.get(..name.length)? {
+        [] => None,
+        octets => Some(Name::of_absolute(octets)),
+    }
 }

@@ -17,17 +17,20 @@ pub struct Status(pub(crate) u32);
 
 impl Status {
     /// Returns the number, as in `dnstext.h`.
+    #[must_use]
     pub fn number(self) -> u32 {
         self.0
     }
 
     /// Returns the name, as in `dnstext.h`, or `unknown`.
+    #[must_use]
     pub fn name(self) -> &'static str {
         // SAFETY: the call accepts any number, and returns a string that lives as long as the program.
         unsafe { string(dnstext_status_name(self.0)) }
     }
 
     /// Returns the message, or `unknown status`.
+    #[must_use]
     pub fn message(self) -> &'static str {
         // SAFETY: as in `name`.
         unsafe { string(dnstext_status_message(self.0)) }
@@ -69,7 +72,8 @@ macro_rules! reasons {
                 }
             }
 
-            /// The status that the library returned.
+            /// Returns the status that the library returned.
+            #[must_use]
             pub fn status(self) -> $crate::Status {
                 match self {
                     $($name::$reason => $crate::Status(dns_text_sys::$status),)*

@@ -1,10 +1,12 @@
 //! Zone files from a `BufRead`, chunk by chunk.
 mod entries;
+mod files;
 mod follow;
 mod records;
 mod window;
 
 pub use entries::{read_entries, EntryReader, OwnedEntry};
+pub use files::{read_zone, ZoneRecords};
 pub use follow::{FollowError, FollowErrorKind, FollowedRecords, TextReader};
 pub use records::{read_records, RecordReader};
 

@@ -5,9 +5,10 @@ use crate::status::reasons;
 use dns_text_sys::dnstext_token;
 use std::error::Error;
 use std::fmt;
+use std::iter::FusedIterator;
 
 /// A token of a zone file: a word, or a quoted string with its double quotes.
-#[derive(Clone, Copy, Debug, PartialEq, Eq)]
+#[derive(Clone, Copy, Debug, PartialEq, Eq, Hash)]
 pub struct Token<'t> {
     /// Offset of its first octet.
     pub start: usize,
@@ -28,6 +29,7 @@ impl<'t> Token<'t> {
     }
 
     /// Returns the text between the double quotes of a quoted string, or the word itself.
+    #[must_use]
     pub fn content(self) -> &'t [u8] {
         if self.is_quoted {
             &self.text[1..self.text.len() - 1]
@@ -69,11 +71,13 @@ impl Fault {
     /// let position = fault.locate(text).unwrap();
     /// assert_eq!(format!("{position}: {}", fault.message()), "2:8: parenthesis is not closed");
     /// ```
+    #[must_use]
     pub fn locate(&self, text: &[u8]) -> Option<Position> {
         position(text, self.place)
     }
 
     /// Returns the message, without the offset.
+    #[must_use]
     pub fn message(&self) -> &'static str {
         self.kind.status().message()
     }
@@ -120,10 +124,11 @@ impl fmt::Display for Fault {
 impl Error for Fault {}
 
 /// An entry of a zone file.
-#[derive(Clone, Debug, PartialEq, Eq)]
+#[derive(Clone, Debug, PartialEq, Eq, Hash)]
 pub struct Entry<'t> {
     /// Whether it begins with a blank: such a record has the owner of the one before.
     pub begins_blank: bool,
+    /// Its tokens in order.
     pub tokens: Vec<Token<'t>>,
 }
 
@@ -140,6 +145,7 @@ pub struct Entry<'t> {
 /// assert!(found.next().is_none());
 /// # Ok::<(), dns_text::Fault>(())
 /// ```
+#[must_use]
 pub fn entries(text: &[u8]) -> Entries<'_> {
     let scan = Scan::new();
     Entries { text, scan }
@@ -164,6 +170,8 @@ impl<'t> Iterator for Entries<'t> {
     }
 }
 
+impl FusedIterator for Entries<'_> {}
+
 /// Returns the tokens of a zone file, without their entries, up to a syntax error. None is copied.
 ///
 /// An octet of 0x80 or more counts as a character of its own.
@@ -177,6 +185,7 @@ impl<'t> Iterator for Entries<'t> {
 /// assert_eq!(words?, [b"a".as_slice(), b"b", b"\"c d\"", b"e"]);
 /// # Ok::<(), dns_text::Fault>(())
 /// ```
+#[must_use]
 pub fn tokens(text: &[u8]) -> Tokens<'_> {
     Tokens {
         text,
@@ -212,3 +221,5 @@ impl<'t> Iterator for Tokens<'t> {
         }
     }
 }
+
+impl FusedIterator for Tokens<'_> {}

@@ -1,7 +1,6 @@
 //! RDATA as values, from octets and back.
 use dns_text::{
-    read_records, records, BadData, CharStr, Name, RecordData, RecordFaultKind, RecordType,
-    RelativeOrigin,
+    read_records, records, CharStr, Name, RecordData, RecordFaultKind, RecordType, RelativeOrigin,
 };
 use std::collections::HashSet;
 
@@ -69,7 +68,7 @@ fn known() -> Vec<(RecordData, Vec<u8>)> {
         b"\x80\x05issueca",
         &[&[1, 2, 8, 1][..], &[7; 20]].concat(),
         &[&[1, 2, 8, 2][..], &[7; 32]].concat(),
-        &[1, 2, 8, 3, 7],
+        &[1, 2, 8, 7, 7],
         b"\x01\x01\x03\x08\x09",
         b"",
     ];
@@ -87,7 +86,7 @@ fn known() -> Vec<(RecordData, Vec<u8>)> {
         caa,
         ds(1, &[7; 20]),
         ds(2, &[7; 32]),
-        ds(3, &[7]),
+        ds(7, &[7]),
         dnskey,
         unknown,
     ];
@@ -131,9 +130,9 @@ fn is_open(record_type: RecordType) -> bool {
 fn other_octets_are_refused() {
     for (data, octets) in known() {
         let record_type = data.record_type();
-        let refused = |octets: &[u8]| RecordData::from_octets(record_type, octets) == Err(BadData);
+        let refused = |octets: &[u8]| RecordData::from_octets(record_type, octets).is_err();
         let longer = [octets.as_slice(), b"\x07"].concat();
-        let is_any_digest = matches!(data, RecordData::Ds { digest_type: 3, .. });
+        let is_any_digest = matches!(data, RecordData::Ds { digest_type: 7, .. });
         assert_eq!(refused(&longer), !is_open(record_type) && !is_any_digest);
         for count in 0..octets.len() {
             let is_strings = matches!(data, RecordData::Txt(_)) && [2, 3].contains(&count);
@@ -145,7 +144,7 @@ fn other_octets_are_refused() {
             );
         }
     }
-    let refused = |kind, octets: &[u8]| RecordData::from_octets(kind, octets) == Err(BadData);
+    let refused = |kind, octets: &[u8]| RecordData::from_octets(kind, octets).is_err();
     assert!(refused(RecordType::NS, b"\x01a\xC0\0"));
     assert!(refused(RecordType::NS, b"\x40a\0"));
     assert!(refused(
@@ -194,7 +193,8 @@ fn other_values_are_refused() {
         unknown,
     ];
     for data in refused {
-        assert_eq!(data.to_octets(), Err(BadData), "{data:?}");
+        let error = data.to_octets().unwrap_err();
+        assert_eq!(error.record_type, data.record_type(), "{data:?}");
     }
     assert_eq!(
         RecordData::Txt(texts[..255].to_vec())
@@ -204,7 +204,6 @@ fn other_values_are_refused() {
         65280
     );
     assert!(caa("a1").to_octets().is_ok());
-    assert_eq!(BadData.to_string(), "no data of the type");
 }
 
 /// Names are equal without regard to case, and strings are not (RFC 4034 section 6.2, RFC 4343 section 3).

@@ -2,7 +2,7 @@
 #[path = "common/blocks.rs"]
 mod blocks;
 
-use blocks::{in_blocks, Blocks};
+use blocks::{in_blocks, placed, Blocks};
 use dns_text::{
     read_records, records, FollowError, FollowErrorKind, FollowedRecords, Generate,
     GenerateFaultKind, Record, RecordData, RecordFaultKind, ZoneItem,
@@ -67,15 +67,15 @@ fn entries_are_read_in_the_place_of_their_directive() {
 
 #[test]
 fn streams_have_the_directives_of_texts() {
-    let at_once: Vec<_> = records(ZONE).filter_map(Result::ok).collect();
+    let at_once: Vec<_> = records(ZONE).filter_map(Result::ok).map(placed).collect();
     for size in 1..ZONE.len() {
         let reader = BufReader::with_capacity(size, ZONE);
-        let items: Vec<_> = read_records(reader).filter_map(Result::ok).collect();
-        assert_eq!(items, at_once);
+        let items = read_records(reader).filter_map(Result::ok).map(placed);
+        assert_eq!(items.collect::<Vec<_>>(), at_once);
     }
     assert!(at_once
         .iter()
-        .any(|item| matches!(item, ZoneItem::Generate(_))));
+        .any(|(_, item)| matches!(item, ZoneItem::Generate(_))));
 }
 
 #[test]

@@ -5,7 +5,7 @@ mod blocks;
 #[path = "common/table.rs"]
 mod table;
 
-use blocks::{in_blocks, Blocks};
+use blocks::{in_blocks, placed, Blocks};
 use dns_text::{
     entries, pieces, position, read_entries, read_records, records, Entry, Fault, FaultKind,
     OwnedEntry, PieceKind, Position, RecordFault, StreamError, ZoneItem,
@@ -151,8 +151,8 @@ fn entries_of_readers_that_fail() {
     });
 }
 
-fn items<E>(found: impl Iterator<Item = Result<ZoneItem, E>>) -> Vec<Option<ZoneItem>> {
-    found.map(Result::ok).collect()
+fn items<E>(found: impl Iterator<Item = Result<ZoneItem, E>>) -> Vec<Option<(usize, ZoneItem)>> {
+    found.map(|item| item.ok().map(placed)).collect()
 }
 
 #[test]
@@ -236,8 +236,8 @@ fn long_entries() {
             column: 3
         })
     );
-    let found = read_records(Blocks::new(text.chunks(1).collect())).map(Result::ok);
-    assert!(found.eq(records(&text).map(Result::ok)));
+    let found = items(read_records(Blocks::new(text.chunks(1).collect())));
+    assert_eq!(found, items(records(&text)));
     let open = [b"((".as_slice(), &text].concat();
     let mut reader = read_entries(Blocks::new(open.chunks(100).collect()));
     let error = reader.next().unwrap().unwrap_err();

@@ -1,12 +1,10 @@
 //! RDATA from and to presentation format.
 use super::compose::compose;
-use super::{BadData, RecordData};
+use super::{BadData, BadDataReason, RecordData};
+use crate::call::with_room;
 use crate::codec::BASE16;
-use crate::{library, Name, RecordFault, RecordFaultKind, RecordType};
-use dns_text_sys::{
-    dnstext_data_canonical, dnstext_data_print, dnstext_data_read, dnstext_outcome,
-    DNSTEXT_NO_ROOM, DNSTEXT_OK,
-};
+use crate::{Name, RecordFault, RecordFaultKind, RecordType};
+use dns_text_sys::{dnstext_data_canonical, dnstext_data_print, dnstext_data_read, DNSTEXT_OK};
 use std::fmt;
 
 impl RecordData {
@@ -37,7 +35,7 @@ impl RecordData {
             });
         }
         let origin = origin.map(Name::as_octets).unwrap_or_default();
-        let (status, outcome, octets) = call(512, |into, outcome| {
+        let (status, outcome, octets) = with_room(512, |into, outcome| {
             // SAFETY: the pointers and lengths are those of slices, and the call stays within them.
             unsafe {
                 dnstext_data_read(
@@ -70,7 +68,7 @@ impl RecordData {
     /// for a type that has no RDATA in zones, such as OPT.
     pub fn to_text(&self) -> Result<String, BadData> {
         let octets = self.to_octets()?;
-        let (status, _, text) = call(4 * octets.len() + 16, |into, outcome| {
+        let (status, _, text) = with_room(4 * octets.len() + 16, |into, outcome| {
             // SAFETY: the pointers and lengths are those of slices, and the call stays within them.
             unsafe {
                 dnstext_data_print(
@@ -84,7 +82,11 @@ impl RecordData {
             }
         });
         if status != DNSTEXT_OK {
-            return Err(BadData);
+            return Err(BadData {
+                record_type: self.record_type(),
+                field: None,
+                reason: BadDataReason::Rejected,
+            });
         }
         Ok(String::from_utf8_lossy(&text).into_owned())
     }
@@ -92,7 +94,7 @@ impl RecordData {
 
 /// Returns the canonical form of octets, if they are RDATA of the type.
 pub(super) fn canonical(record_type: RecordType, octets: &[u8]) -> Option<Vec<u8>> {
-    let (status, _, form) = call(octets.len(), |into, outcome| {
+    let (status, _, form) = with_room(octets.len(), |into, outcome| {
         // SAFETY: the pointers and lengths are those of slices, and the call stays within them.
         unsafe {
             dnstext_data_canonical(
@@ -108,30 +110,12 @@ pub(super) fn canonical(record_type: RecordType, octets: &[u8]) -> Option<Vec<u8
     (status == DNSTEXT_OK).then_some(form)
 }
 
-/// Makes a call with a buffer of the size that it needs. Returns its status, outcome and output.
-fn call(
-    expected: usize,
-    call: impl Fn(&mut [u8], &mut dnstext_outcome) -> u32,
-) -> (u32, dnstext_outcome, Vec<u8>) {
-    library::check();
-    let mut given = vec![0; expected];
-    loop {
-        let mut outcome = dnstext_outcome::default();
-        let status = call(&mut given, &mut outcome);
-        if status != DNSTEXT_NO_ROOM || outcome.length <= given.len() {
-            given.truncate(outcome.length);
-            return (status, outcome, given);
-        }
-        given.resize(outcome.length, 0);
-    }
-}
-
 /// Displays the presentation format; for values without one `\#`, the number of octets, and these in
 /// hexadecimal.
 impl fmt::Display for RecordData {
     fn fmt(&self, f: &mut fmt::Formatter<'_>) -> fmt::Result {
         let generic = |_| {
-            let octets = compose(self);
+            let octets = compose(self).octets;
             format!("\\# {} {}", octets.len(), BASE16.print(&octets))
         };
         f.pad(&self.to_text().unwrap_or_else(generic))

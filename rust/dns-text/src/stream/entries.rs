@@ -21,16 +21,19 @@ pub struct OwnedEntry {
 
 impl OwnedEntry {
     /// Returns whether it begins with a blank: such a record has the owner of the one before.
+    #[must_use]
     pub fn begins_blank(&self) -> bool {
         self.begins_blank
     }
 
     /// Returns its tokens. Their offsets count from where reading began.
+    #[must_use]
     pub fn tokens(&self) -> impl ExactSizeIterator<Item = Token<'_>> {
         tokens_at(&self.tokens, self.start, &self.octets)
     }
 
     /// Returns the entry with borrowed octets.
+    #[must_use]
     pub fn as_entry(&self) -> Entry<'_> {
         Entry {
             begins_blank: self.begins_blank,
@@ -39,12 +42,14 @@ impl OwnedEntry {
     }
 
     /// Returns the line and column of its first octet.
+    #[must_use]
     pub fn position(&self) -> Position {
         self.position
     }
 
     /// Returns line and column of an offset in it, such as that of a token, or `None` before the entry and
     /// after its last token.
+    #[must_use]
     pub fn locate(&self, place: usize) -> Option<Position> {
         let before = self.octets.get(..place.checked_sub(self.start)?)?;
         Some(advance(self.position, before))
@@ -76,6 +81,7 @@ impl OwnedEntry {
 /// assert!(found.next().is_none());
 /// # Ok::<(), StreamError<dns_text::Fault>>(())
 /// ```
+#[must_use]
 pub fn read_entries<R: BufRead>(reader: R) -> EntryReader<R> {
     EntryReader {
         window: Window::new(reader),
@@ -121,6 +127,8 @@ impl<R: BufRead> EntryReader<R> {
         };
         self.is_done = self.scan.is_done();
         self.window.pass(self.scan.at());
+        // (each entry has its position)
+        self.window.count_lines();
         entry
     }
 

@@ -57,7 +57,12 @@ pub struct FollowedRecords<R, F> {
     most_entries: u64,
     /// The directive of the file that is read, while its entries are.
     generated: Option<GeneratedRecords>,
+    /// How the names of included files are made; without it they are those in the text.
+    join: Option<Join>,
 }
+
+/// Returns the name of an included file from that of the file that includes it and that in the text.
+type Join = fn(&[u8], &[u8]) -> Vec<u8>;
 
 /// A file that is open, and its name, if it is not the first.
 #[derive(Debug)]
@@ -163,10 +168,36 @@ impl<R, F> FollowedRecords<R, F> {
             included: 0,
             most_entries: MOST_ENTRIES,
             generated: None,
+            join: None,
         }
     }
 
+    /// Sets the name of the first file, and how the names of included files are made.
+    pub(super) fn named(mut self, name: Vec<u8>, join: Join) -> FollowedRecords<R, F> {
+        if let Some(first) = self.files.first_mut() {
+            first.name = Some(name);
+        }
+        self.join = Some(join);
+        self
+    }
+
+    /// Changes the reader of the first file.
+    pub(super) fn with_first(
+        mut self,
+        change: impl FnOnce(RecordReader<R>) -> RecordReader<R>,
+    ) -> FollowedRecords<R, F> {
+        if self.files.len() == 1 {
+            let first = self.files.pop().map(|file| OpenFile {
+                reader: change(file.reader),
+                ..file
+            });
+            self.files.extend(first);
+        }
+        self
+    }
+
     /// Sets the greatest number of entries of a `$GENERATE` directive.
+    #[must_use]
     pub fn with_max_generate(mut self, most: u64) -> Self {
         self.most_entries = most;
         self
@@ -239,6 +270,10 @@ impl<R, F> FollowedRecords<R, F> {
     {
         let Some(outer) = self.files.last() else {
             return Ok(());
+        };
+        let file = match (self.join, &outer.name) {
+            (Some(join), Some(name)) => join(name, &file),
+            _ => file,
         };
         if self.files.len() > MOST_OPEN {
             return Err(FollowErrorKind::TooDeep { file });

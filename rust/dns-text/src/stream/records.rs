@@ -6,9 +6,6 @@ use crate::{pieces, Class, Name, PieceKind, Position, RecordFault, Ttl};
 use std::io::BufRead;
 use std::iter::FusedIterator;
 
-/// An item, or an error of the text.
-type Found = Option<Result<ZoneItem, RecordFault>>;
-
 /// Returns the records of a zone file from a `BufRead`, which is read in chunks.
 ///
 /// Records and errors are those of [`records`](crate::records); errors have lines and columns. An error of
@@ -34,6 +31,7 @@ type Found = Option<Result<ZoneItem, RecordFault>>;
 /// assert!(found.next().is_none());
 /// # Ok::<(), Box<dyn std::error::Error>>(())
 /// ```
+#[must_use]
 pub fn read_records<R: BufRead>(reader: R) -> RecordReader<R> {
     RecordReader {
         window: Window::new(reader),
@@ -58,12 +56,14 @@ impl<R> RecordReader<R> {
     }
 
     /// Sets the class of records without one.
+    #[must_use]
     pub fn with_class(mut self, class: Class) -> Self {
         self.state.set_class(class);
         self
     }
 
     /// Sets the default TTL, as `$TTL` does (RFC 2308 section 4).
+    #[must_use]
     pub fn with_default_ttl(mut self, ttl: Ttl) -> Self {
         self.state.set_default_ttl(ttl);
         self
@@ -116,6 +116,7 @@ impl<R> RecordReader<R> {
     /// }
     /// # Ok::<(), Box<dyn std::error::Error>>(())
     /// ```
+    #[must_use]
     pub fn follow_includes<F, T, E>(self, open: F) -> FollowedRecords<R, F>
     where
         F: FnMut(&[u8]) -> Result<T, E>,
@@ -166,46 +167,46 @@ fn whole_entries(text: &[u8]) -> usize {
     whole
 }
 
-/// Returns whether an item is final, whatever octets follow the text. `at` is the offset at which reading
-/// continues.
-fn is_settled(found: &Found, at: usize, text: &[u8]) -> bool {
-    let is_fault = |fault: &RecordFault| fault.is_of_text() && fault.place < text.len();
-    at < text.len() || matches!(found, Some(Err(fault)) if is_fault(fault))
-}
-
 impl<R: BufRead> RecordReader<R> {
     /// Returns the next record, file to include or error, if the octets in memory decide it.
     fn read(&mut self) -> Option<Result<ZoneItem, StreamError<RecordFault>>> {
         if !self.window.skip_line() {
             return None;
         }
-        let text = self.window.rest();
+        let mut text = self.window.rest();
         let before = self.state.keep();
-        let (found, at) = self.state.read(text);
-        if self.window.is_ended() || is_settled(&found, at, text) {
-            return self.pass(found, at);
+        let (mut step, mut at) = self.state.step(text);
+        if !self.window.is_ended() && !step.is_settled(at, text) {
+            self.state.go_back(before);
+            text = &text[..whole_entries(text)];
+            (step, at) = self.state.step(text);
         }
-        self.state.go_back(before);
-        let (found, at) = self.state.read(&text[..whole_entries(text)]);
-        self.pass(found, at)
+        let place = self.window.place();
+        match self.state.item(step, text) {
+            None => {
+                self.window.pass(at);
+                None
+            }
+            Some(Ok(mut item)) => {
+                item.move_behind(place);
+                self.window.pass(at);
+                Some(Ok(item))
+            }
+            Some(Err(fault)) => Some(Err(self.pass_fault(fault, at))),
+        }
     }
 
-    /// Advances past the item.
-    fn pass(
-        &mut self,
-        found: Found,
-        at: usize,
-    ) -> Option<Result<ZoneItem, StreamError<RecordFault>>> {
+    /// Advances past an error.
+    fn pass_fault(&mut self, fault: RecordFault, at: usize) -> StreamError<RecordFault> {
         let before = self.window.place();
-        match &found {
-            Some(Err(fault)) if fault.is_of_text() => self.window.pass_line(fault.place),
-            Some(Err(fault)) if fault.is_unknown() => self.is_done = true,
-            _ => self.window.pass(at),
+        if fault.is_of_text() {
+            self.window.pass_line(fault.place);
+        } else if fault.is_unknown() {
+            self.is_done = true;
+        } else {
+            self.window.pass(at);
         }
-        Some(match found? {
-            Ok(item) => Ok(item.behind(before)),
-            Err(fault) => Err(self.refusal(fault.behind(before))),
-        })
+        self.refusal(fault.behind(before))
     }
 
     fn refusal(&self, fault: RecordFault) -> StreamError<RecordFault> {

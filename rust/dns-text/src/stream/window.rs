@@ -6,23 +6,24 @@ use std::io::{self, BufRead, ErrorKind};
 /// their number has doubled, so that a long entry costs linear time.
 const FEW: usize = 4096;
 
-/// An offset among all octets, and the same among those in memory.
-#[derive(Clone, Copy, Debug)]
-struct Mark {
-    held: usize,
-    place: usize,
-    position: Position,
-}
+/// Number of octets whose lines are not counted yet, above which they are counted. Lines are counted for many octets
+/// at once, and not for each item.
+const UNCOUNTED: usize = 4096;
 
-/// The octets in memory, and the offset of the next.
+/// The octets in memory, and the index of the next.
 #[derive(Debug)]
 pub(super) struct Window<R> {
     reader: R,
     octets: Vec<u8>,
-    /// Offset of the next octet.
-    next: Mark,
-    /// That offset before the last call.
-    last: Mark,
+    /// Offset of the first octet in memory.
+    before: usize,
+    /// Index of the next octet.
+    next: usize,
+    /// That index before the last item.
+    last: usize,
+    /// An index up to `last`, and its line and column.
+    counted: usize,
+    position: Position,
     /// Whether the rest of a line is to be skipped first.
     skips: bool,
     is_ended: bool,
@@ -35,16 +36,14 @@ impl<R> Window<R> {
 
     /// Returns an empty window whose first octet has an offset and a position.
     pub(super) fn starting_at(reader: R, place: usize, position: Position) -> Window<R> {
-        let start = Mark {
-            held: 0,
-            place,
-            position,
-        };
         Window {
             reader,
             octets: Vec::new(),
-            next: start,
-            last: start,
+            before: place,
+            next: 0,
+            last: 0,
+            counted: 0,
+            position,
             skips: false,
             is_ended: false,
         }
@@ -52,17 +51,17 @@ impl<R> Window<R> {
 
     /// Returns the unread octets in memory.
     pub(super) fn rest(&self) -> &[u8] {
-        &self.octets[self.next.held..]
+        &self.octets[self.next..]
     }
 
     /// Returns the offset of the next octet among all octets.
     pub(super) fn place(&self) -> usize {
-        self.next.place
+        self.before + self.next
     }
 
     /// Returns line and column of the next octet.
     pub(super) fn position(&self) -> Position {
-        self.next.position
+        self.position_at(self.next)
     }
 
     /// Returns whether all octets are in memory.
@@ -70,10 +69,13 @@ impl<R> Window<R> {
         self.is_ended
     }
 
-    /// Skips `count` octets.
+    /// Skips `count` octets, an item.
     pub(super) fn pass(&mut self, count: usize) {
         self.last = self.next;
-        self.step(count);
+        if self.last - self.counted > UNCOUNTED {
+            self.count_lines();
+        }
+        self.next += count;
     }
 
     /// Skips the line of a syntax error at the offset `count`.
@@ -90,24 +92,27 @@ impl<R> Window<R> {
         }
         let end = self.rest().iter().position(|octet| *octet == b'\n');
         self.skips = end.is_none();
-        self.step(end.map_or(self.rest().len(), |count| count + 1));
+        self.next += end.map_or(self.rest().len(), |count| count + 1);
         !self.skips
     }
 
-    fn step(&mut self, count: usize) {
-        let position = advance(self.next.position, &self.rest()[..count]);
-        self.next = Mark {
-            held: self.next.held + count,
-            place: self.next.place + count,
-            position,
-        };
+    /// Counts the lines before the last item.
+    pub(super) fn count_lines(&mut self) {
+        self.position = self.position_at(self.last);
+        self.counted = self.last;
+    }
+
+    /// Returns line and column of an index that is not less than the last one counted.
+    fn position_at(&self, index: usize) -> Position {
+        advance(self.position, &self.octets[self.counted..index])
     }
 
     /// Returns line and column of an offset in what was skipped last, or of its end.
     pub(super) fn locate(&self, place: usize) -> Option<Position> {
-        let passed = &self.octets[self.last.held..self.next.held];
-        let before = passed.get(..place.checked_sub(self.last.place)?)?;
-        Some(advance(self.last.position, before))
+        let index = place.checked_sub(self.before)?;
+        (self.last..=self.next)
+            .contains(&index)
+            .then(|| self.position_at(index))
     }
 
     /// Returns the capacity in octets.
@@ -118,9 +123,11 @@ impl<R> Window<R> {
 
     /// Drops the octets that were read.
     fn let_go(&mut self) {
-        self.octets.drain(..self.next.held);
-        self.next.held = 0;
         self.last = self.next;
+        self.count_lines();
+        self.octets.drain(..self.next);
+        self.before += self.next;
+        (self.next, self.last, self.counted) = (0, 0, 0);
     }
 }
 
@@ -158,9 +165,17 @@ pub(super) fn advance(from: Position, octets: &[u8]) -> Position {
             column: from.column + octets.len(),
         };
     };
-    let lines = octets[..=last].iter().filter(|octet| **octet == b'\n');
     Position {
-        line: from.line + lines.count(),
+        line: from.line + count_feeds(&octets[..=last]),
         column: octets.len() - last,
     }
+}
+
+/// Returns the number of line feeds, which are counted in single octets, many at once.
+fn count_feeds(octets: &[u8]) -> usize {
+    let counts = octets.chunks(255).map(|octets| {
+        let is_feed = octets.iter().map(|octet| u8::from(*octet == b'\n'));
+        usize::from(is_feed.sum::<u8>())
+    });
+    counts.sum()
 }

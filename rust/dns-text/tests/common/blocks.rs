@@ -1,4 +1,5 @@
 //! A `BufRead` that returns octets in chunks.
+use dns_text::ZoneItem;
 use std::io::{self, BufRead, ErrorKind, Read};
 
 /// Returns the octets of chunks, at most one chunk in each call, and is interrupted before each. Then it
@@ -75,4 +76,16 @@ pub fn in_blocks(text: &[u8], mut judge: impl FnMut(Blocks<'_>)) {
     for place in 0..=text.len() {
         judge(Blocks::new(vec![&text[..place], &text[place..]]));
     }
+}
+
+/// Returns an item and its offset, without which records are compared.
+#[allow(dead_code)]
+pub fn placed(item: ZoneItem) -> (usize, ZoneItem) {
+    let place = match &item {
+        ZoneItem::Record(record) => record.place,
+        ZoneItem::Include { place, .. } => *place,
+        ZoneItem::Generate(directive) => directive.place,
+        item => panic!("{item:?}"),
+    };
+    (place, item)
 }

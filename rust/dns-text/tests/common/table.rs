@@ -14,11 +14,11 @@ pub fn octets_of(field: &str) -> Vec<u8> {
     octets
 }
 
-/// Returns the rows of a crate's files `stdin` and `rows`, each with its file and line.
-fn rows_of(folder: &str) -> Vec<(String, String)> {
+/// Returns the rows of a crate's files, each with its file and line.
+pub fn rows_of(folder: &str, names: &[&str]) -> Vec<(String, String)> {
     let top = env!("CARGO_MANIFEST_DIR");
     let mut rows = Vec::new();
-    for name in ["stdin", "rows"] {
+    for name in names {
         let path = format!("crates/{folder}/{name}");
         let text = read_to_string(format!("{top}/../../{path}")).unwrap();
         for (number, line) in text.lines().enumerate() {
@@ -38,13 +38,14 @@ fn judged(place: &str, line: &str, judge: impl FnOnce() -> bool) -> bool {
     })
 }
 
-/// Checks the rows of a crate, of both files. Prints the names of the calls that `judge` does not answer, and file and
+/// Checks the rows of a crate, of its files `stdin` and `rows`. Prints the names of the calls that `judge` does not answer, and file and
 /// line of each answered row if `LIST_ROWS` is set.
+#[allow(dead_code)]
 pub fn each_row(folder: &str, least: usize, mut judge: impl FnMut(&[&str]) -> bool) {
     let lists = std::env::var_os("LIST_ROWS").is_some();
     let mut count = 0;
     let mut others = BTreeSet::new();
-    for (place, line) in rows_of(folder) {
+    for (place, line) in rows_of(folder, &["stdin", "rows"]) {
         let fields: Vec<&str> = line.split('\t').collect();
         if judged(&place, &line, || judge(&fields)) {
             count += 1;

@@ -1,6 +1,8 @@
 //! RDATA, strings and classes.
 use crate::table::octets_of;
-use dns_text::{records, CharStr, Class, Name, RecordData, RecordFault, RecordType, ZoneItem};
+use dns_text::{
+    records, CharStr, Class, Name, Record, RecordData, RecordFault, RecordType, Ttl, ZoneItem,
+};
 
 pub fn name_of(field: &str) -> Name {
     Name::from_octets(octets_of(field)).unwrap()
@@ -75,6 +77,48 @@ pub fn print(record_type: &str, text: &str, origin: &str, wanted: &str) -> bool 
         (found, _) => panic!("{record_type}: {found:?}"),
     }
     true
+}
+
+/// A row of a record's owner, TTL, class, type and RDATA in presentation format, and of its line. A `Ttl`
+/// is below 2^31.
+pub fn line(record: &[&str], wanted: &str) -> bool {
+    let [owner, ttl, class, record_type, text] = record else {
+        panic!("{record:?}")
+    };
+    let Ok(ttl) = Ttl::try_from(ttl.parse::<u32>().unwrap()) else {
+        return false;
+    };
+    let origin = Some(name_of(crate::EXAMPLE));
+    let record_type = record_type.parse().unwrap();
+    let data = RecordData::from_text(record_type, &octets_of(text), origin.as_ref());
+    let record = data.map(|data| Record {
+        place: 0,
+        owner: name_of(owner),
+        ttl,
+        class: Class(class.parse().unwrap()),
+        data,
+    });
+    match (record, wanted.strip_prefix('!')) {
+        (Err(_), Some(_)) => {}
+        (Ok(record), None) => {
+            assert_eq!(record.to_string().as_bytes(), octets_of(wanted));
+            is_read_back(&record);
+        }
+        (found, _) => panic!("{wanted}: {found:?}"),
+    }
+    true
+}
+
+/// Checks that the line of a record is read back as that record.
+pub fn is_read_back(record: &Record) {
+    let line = format!("{record}\n");
+    let found: Vec<_> = records(line.as_bytes()).collect();
+    let [Ok(ZoneItem::Record(again))] = &found[..] else {
+        panic!("{line}{found:?}")
+    };
+    assert_eq!(again, record);
+    assert_eq!(format!("{:?}", again.data), format!("{:?}", record.data));
+    assert_eq!(again.owner.as_octets(), record.owner.as_octets());
 }
 
 /// A row of a type, and octets that are its RDATA or not. Only types with a variant check them.

@@ -1,6 +1,6 @@
 //! Zone files: records, files to include and errors, in memory and in chunks.
-use crate::blocks::{in_blocks, Blocks};
-use crate::data::name_of;
+use crate::blocks::{in_blocks, placed, Blocks};
+use crate::data::{is_read_back, name_of};
 use crate::table::octets_of;
 use dns_text::{
     position, read_records, records, Position, RecordFault, RecordFaultKind, RecordType,
@@ -8,8 +8,8 @@ use dns_text::{
 };
 use std::io::BufRead;
 
-/// The items, and the positions of errors.
-type Found = Vec<Result<ZoneItem, (RecordFault, Position)>>;
+/// The items with their offsets, and the errors with their positions.
+type Found = Vec<Result<(usize, ZoneItem), (RecordFault, Position)>>;
 
 fn at_once(text: &[u8], origin: Option<&str>) -> Found {
     let mut found = records(text);
@@ -20,7 +20,7 @@ fn at_once(text: &[u8], origin: Option<&str>) -> Found {
         let position = fault.locate(text).unwrap();
         (fault, position)
     };
-    found.map(|item| item.map_err(told)).collect()
+    found.map(|item| item.map(placed).map_err(told)).collect()
 }
 
 /// The items of a `BufRead`, with the offsets of records.
@@ -34,7 +34,7 @@ fn of_reader(reader: impl BufRead, text: &[u8], origin: Option<&str>) -> Found {
         if let Ok(ZoneItem::Record(record)) = &item {
             assert_eq!(reader.locate(record.place), position(text, record.place));
         }
-        found.push(item.map_err(|error| match error {
+        found.push(item.map(placed).map_err(|error| match error {
             StreamError::Fault { fault, position } => (fault, position),
             StreamError::Io(error) => panic!("{error}"),
         }));
@@ -56,8 +56,8 @@ fn refusal_of(fault: &RecordFault) -> String {
 }
 
 /// Returns whether an item is that of the row.
-fn agrees(wanted: &str, found: &Result<ZoneItem, (RecordFault, Position)>) -> bool {
-    match found {
+fn agrees(wanted: &str, found: &Result<(usize, ZoneItem), (RecordFault, Position)>) -> bool {
+    match found.as_ref().map(|(_, item)| item) {
         Err((fault, _)) => refusal_of(fault) == wanted,
         Ok(ZoneItem::Include { file, origin, .. }) => {
             let mut octets = [b"include ", file.as_slice()].concat();
@@ -94,6 +94,9 @@ pub fn read(text: &[u8], origin: Option<&str>, wanted: &str) -> bool {
     assert_eq!(items.len(), found.len(), "{wanted}: {found:?}");
     for (item, given) in items.iter().zip(&found) {
         assert!(agrees(item, given), "{item}: {given:?}");
+        if let Ok((_, ZoneItem::Record(record))) = given {
+            is_read_back(record);
+        }
     }
     in_blocks(text, |blocks: Blocks| {
         assert_eq!(of_reader(blocks, text, origin), found)

@@ -24,6 +24,7 @@ fn judge(fields: &[&str]) -> bool {
         ["data.print", record_type, text, origin, wanted] => {
             data::print(record_type, text, origin, wanted)
         }
+        ["record.print", "simple", record @ .., wanted] => data::line(record, wanted),
         ["record.wire", record_type, octets, wanted] => data::wire(record_type, octets, wanted),
         ["name.spell", text, wanted] => data::name(text, None, wanted),
         ["name.spell", text, origin, wanted] => data::name(text, Some(origin), wanted),
