@@ -150,6 +150,19 @@ def gateway(octets, at):
     return end is not None and (end < len(octets) or octets[at + 1] == 0)
 
 
+def host(octets, at):
+    """RFC 8005 section 5: the lengths of the tag and of the key, which are not empty, and names to the end."""
+    if at + 4 > len(octets):
+        return False
+    hit, key = octets[at], 256 * octets[at + 2] + octets[at + 3]
+    at += 4 + hit + key
+    if hit == 0 or key == 0 or at > len(octets):
+        return False
+    while at is not None and at < len(octets):
+        at = name(octets, at)
+    return at is not None
+
+
 def is_value(key, value, keys):
     """RFC 9460 sections 7 and 8, RFC 9461 section 5: whether a value is one of its key beside these keys."""
     if key == 0:
@@ -224,6 +237,7 @@ RESTS = {
     "location": location,
     "prefixes": prefixes,
     "gateway": gateway,
+    "host": host,
     "params": params,
 }
 
@@ -255,7 +269,7 @@ FORMS = {
     "DNSKEY CDNSKEY KEY RKEY": "4 some",
     "RRSIG SIG": "18 name some",
     "CERT": "5 some",
-    "DHCID OPENPGPKEY HHIT BRID EID NIMLOC": "some",
+    "DHCID OPENPGPKEY HHIT BRID EID NIMLOC NSAP": "some",
     "NSEC": "name some-types",
     "NSEC3": "4 salt hash types",
     "CSYNC": "6 types",
@@ -264,6 +278,7 @@ FORMS = {
     "LOC": "location",
     "APL": "prefixes",
     "IPSECKEY": "1 gateway",
+    "HIP": "host",
     "SVCB HTTPS": "2 name params",
 }
 

@@ -114,7 +114,7 @@ def error_lines(ran):
 
 # Messages that name what was probably meant, and what the library says: any text, or one that fits.
 NAMED = [
-    (rb"no record type: is '[A-Z]+' missing before '.*'\?", rb"expected time to live|unknown record type"),
+    (rb"no record type: is '[A-Z]+' missing before '.*'\?", rb"expected TTL|unknown record type"),
     (rb"'(#|//)' is no comment|merge conflict marker '.*'", rb".*"),
     (rb"character string of [0-9]+ octets \(at most 255\)", rb"character string with more than 255 octets"),
     (rb"digest of [0-9]+ octets; type .*", rb"wrong number of octets"),

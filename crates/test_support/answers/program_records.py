@@ -11,14 +11,17 @@ RULES = {
     "no-soa", "no-ns", "outside", "two-soas", "ns-address", "cname", "dname", "below-dname", "ds-apex", "wildcard-ns",
     "soa-not-apex", "ns-beside-dname", "nsec3-wildcard",
     "glue", "target-cname", "target-missing", "host-name", "cds", "ds-without-ns", "not-at-apex", "key-protocol",
-    "key-algorithm", "cname-target-missing", "cname-loop", "two-spf", "weak-digest", "single-ns", "ttl-differs", "duplicate",
+    "key-algorithm", "cname-target-missing", "cname-loop", "two-spf", "weak-digest", "single-ns",
+    "null-mx", "zonemd-serial", "tlsa-host", "svcb-alias", "ttl-differs", "duplicate",
 }
 SECURITY = {
-    "expired", "expires-soon", "not-yet-valid", "rrsig-times", "rrsig-signer", "rrsig-labels", "original-ttl",
-    "rrsig-ttl", "unsigned", "no-key", "key-missing", "rrsig-key", "signs-nothing", "occluded-dnssec",
-    "no-nsec", "nsec-next", "nsec-types", "no-nsec3", "nsec3-next", "nsec3-types",
+    "expired", "expires-soon", "not-yet-valid", "rrsig-times", "rrsig-signer", "rrsig-labels", "rrsig-length", "original-ttl",
+    "rrsig-ttl", "unsigned", "no-key", "key-missing", "rrsig-key", "key-length", "signs-nothing",
+    "occluded-dnssec", "no-nsec", "nsec-next", "nsec-types", "no-nsec3", "nsec3-next", "nsec3-types",
     "nsec3-owner", "nsec3-iterations", "nsec3-iterations-50", "nsec3-iterations-0", "nsec-ttl", "cds-delete",
 }
+# Codes that are not shown at a word with another one.
+BEATEN = {"ns-address": b"target-cname", "wildcard-inside": b"host-name"}
 # Syntax errors by the code that `check` reports, with their name in rows.
 FAULTS = {b"closing-parenthesis": b"closing", b"open-parenthesis": b"open parenthesis", b"open-quote": b"open quote",
           b"lone-return": b"lone return", b"bad-escape": b"bad escape"}
@@ -291,9 +294,15 @@ def entries_row(row):
     """The records of a text print as those with the expected octets. Errors have their position and reason."""
     text, *origin = row.inputs
     reported, records, files = [], b"", {}
+    lacks_ttl = False
     for item in items_of(row.wanted):
         if item.startswith(b"!"):
             reason, place = item[1:].rsplit(b"|", 1)
+            if reason == b"no TTL" and lacks_ttl:
+                # (the program counts a TTL as known after a rejected `$TTL`)
+                continue
+            line = text[text.rfind(b"\n", 0, int(place)) + 1 :]
+            lacks_ttl = lacks_ttl or line[:4].upper() == b"$TTL"
             is_of_text = reason in FAULTS.values()
             reported.append((at(text, int(place)) if is_of_text else spot(text, int(place), reason), reason))
         elif item.startswith(b"include "):
@@ -462,7 +471,9 @@ def rules_row(codes, *options):
                     found.append(code)
                 else:
                     found.append(b" ".join((code, *owners[finding["line"]])))
-            return sorted(found) == wanted
+            # (the program shows one finding a word)
+            beaten = [b" ".join((code, *owners[it["line"]])) for by, code in BEATEN.items() for it in findings(check, {by})]
+            return sorted(found) == [it for it in wanted if it not in beaten]
 
         return Plan(files, commands, f"findings {short(b';'.join(wanted))}", agrees)
 

@@ -4,7 +4,8 @@ ghost use Rattle.std.specs.Prelude.{◌≡◌, [], ◌∷◌, ◌++◌, codes, f
 ghost use Rattle.std.specs.Fmt.{decimal};
 ghost use Rattle.std.specs.String.{string_bytes};
 ghost use Rattle.dns_zone.specs.Layout.{token, begin, end, comment};
-ghost use Rattle.dns_zone.specs.Nesting.{has_line, nested_in_block, no_line_append};
+ghost use Rattle.dns_zone.specs.Nesting.{has_line};
+ghost use Rattle.dns_zone.specs.Forming.{nested_in_block, no_line_append};
 
 use super::prints;
 use dns_zone::zonefile_fmt::{self, FormatWriter, Formatter, ZonefileFmt};

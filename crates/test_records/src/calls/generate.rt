@@ -92,7 +92,7 @@ fn records(inputs: &[Vec<u8>], answer: &mut Answer) {
     for _ in 0..=text.len() {
         let mut target: Octets = Vec::new(answer.heap());
         match reader.next_entry(&mut target) {
-            Some(Ok(ParsedEntry::Generate { at })) => {
+            Some(Ok(ParsedEntry::Generate { at, .. })) => {
                 let end = reader.place();
                 if end < at || text.len() < end {
                     return answer.fail(Failure::BadInputs);

@@ -58,6 +58,7 @@ pub fn add_read(state: &State, read: ParsedEntry, octets: &[u8], answer: &mut An
         ParsedEntry::Include {
             file_name_len,
             has_origin,
+            ..
         } => {
             let (name, origin) = include_parts(octets, file_name_len);
             answer.add_text("include ");
@@ -67,7 +68,7 @@ pub fn add_read(state: &State, read: ParsedEntry, octets: &[u8], answer: &mut An
                 answer.add(origin);
             }
         }
-        ParsedEntry::Generate { at } => {
+        ParsedEntry::Generate { at, .. } => {
             answer.add_text("generate ");
             answer.add_number(at);
         }
@@ -76,6 +77,7 @@ pub fn add_read(state: &State, read: ParsedEntry, octets: &[u8], answer: &mut An
             ttl,
             class,
             rtype,
+            ..
         } => {
             answer.add_number(at);
             answer.add_text("|");
