@@ -23,6 +23,8 @@ COMMENTS = {
     ".c": re.compile(r"//(.*)"),
     ".h": re.compile(r"//(.*)"),
     ".py": re.compile(r"#(.*)"),
+    ".js": re.compile(r"//(.*)"),
+    ".ts": re.compile(r"//(.*)"),
     ".fish": re.compile(r"#(.*)|'([^']*)'$"),
     ".sh": re.compile(r"^\s*#(?!!)(.*)"),
     "": re.compile(r"^\s*#(?!!)(.*)"),

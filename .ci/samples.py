@@ -1,7 +1,7 @@
 #!/usr/bin/env python3
 """Tries the samples in Rattle on pages: each is compiled, without proofs, and must end without an error.
 
-usage: .ci/samples.py [--list] [PAGE[:LINE]..]    without pages README, BINDINGS, RECORDS, FIRST-CHANGE and that of each crate
+usage: .ci/samples.py [--list] [PAGE[:LINE]..]    without pages README, BINDINGS, C, RECORDS, FIRST-CHANGE and that of each crate
 
 A sample is a block that begins with ```rust. The line above it is its mark:
 
@@ -25,7 +25,7 @@ import sys
 import tempfile
 
 TOP = os.path.dirname(os.path.dirname(os.path.realpath(__file__)))
-PAGES = ["README.md", "docs/BINDINGS.md", "docs/RECORDS.md", "docs/FIRST-CHANGE.md"]
+PAGES = ["README.md", "docs/BINDINGS.md", "docs/C.md", "docs/RECORDS.md", "docs/FIRST-CHANGE.md"]
 UNMARKED = 0
 # Also in an item of a list, where each line begins with blanks.
 SAMPLE = re.compile(r"(?:^ *<!-- ([^\n]*) -->\n)?^ *```rust\n(.*?)^ *```$", re.M | re.S)
