@@ -454,7 +454,8 @@ fn read_record_data<S: TokenSource, B: OctetsBuilder + AsOctetsMut>(
     match read_rdata(header.rtype, state.origin.name(), source, target) {
         Ok(()) => {
             let minimum = minimum_of(header.rtype, &target.as_slice()[old_len..]);
-            let end = skip_tokens(source);
+            // No token of the entry is left.
+            let end = source.place();
             finish_record(state, at, data_at, end, header, minimum)
         }
         Err(error) => Err(error),

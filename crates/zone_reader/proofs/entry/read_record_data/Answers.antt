@@ -25,7 +25,7 @@ returns-in-Ok-clause-reads g c =
       minimum_gained c.args.state.now c.args.state.now.owner room c.args.at (ends c.args.source.now).at old new c.finish_record.result (next_place (left c.args.source.now) (ends c.args.source.now).at) w begun gains.0 c.as_slice.result.now c.minimum_of-minimum.result gains.2
           (ap length c.as_slice-old_len.ensures.value) c.as_slice.ensures.value c.minimum_of-minimum.ensures
           (c.finish_record.ensures.record
-          ∙ (λ i. record_with c.args.state.now c.args.at (c.place-data_at.ensures i) ((c.skip_tokens-end.ensures.at ∙ ap (λ e. e.at) c.in-Ok.ensures.end) i) w
+          ∙ (λ i. record_with c.args.state.now c.args.at (c.place-data_at.ensures i) ((c.place-end.ensures ∙ (λ j. next_place (c.in-Ok.ensures.reads.0 j) (c.in-Ok.ensures.end j).at)) i) w
           (chosen_ttl w.ttl c.args.state.now.default_ttl c.args.state.now.last_ttl c.minimum_of-minimum.result))),
     )
 
