@@ -1,3 +1,6 @@
 pub mod ClauseSteps
 pub mod PathSteps
+pub mod PatternSteps
+pub mod SetSteps
+pub mod StarSteps
 pub mod TokenSteps

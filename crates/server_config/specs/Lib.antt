@@ -6,6 +6,8 @@ pub mod NameRows
 pub mod Nsd
 pub mod NsdLexemes
 pub mod PathPatterns
+pub mod PathPlaces
+pub mod PathRows
 pub mod Rows
 pub mod Settings
 pub mod Statements
