@@ -89,7 +89,7 @@ module _ (p n : List ℕ) (r : ℕ × ℕ) (ends : EndsHere p n r) where
       at_end is (inl lt) = up_to_star lt
       at_end is (inr ended) = up_to_end (omega (arith, is)) ended
 
--- no octets so far fit what a star stands before
+-- no octets so far fit what is after a star
 pub record IsPassed (p n : List ℕ) (from : ℕ) : Type 0 where
   pub same : from ≤ length n → path_fits (Star ∷ pattern_items p) (drop from n) ≡ path_fits (Star ∷ pattern_items p) n
   pub none : length n < from → path_fits (Star ∷ pattern_items p) n ≡ false
