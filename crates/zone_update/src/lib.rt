@@ -12,7 +12,7 @@ pub mod serial;
 pub mod servers;
 
 pub use messages::{UpdateError, messages_of};
-pub use operation::{Operation, in_one_rrset, is_at};
+pub use operation::{Operation, is_at};
 pub use operations::{is_sent, push_operations};
 pub use parts::wire_size;
 pub use serial::allows_messages;

@@ -1,6 +1,6 @@
 //! The operations of a dynamic update.
 ghost use Rattle.std.specs.Prelude.{◌≡◌};
-ghost use Rattle.zone_update.specs.Operations.{in_one_rrset, is_apex_ns, is_at, operated};
+ghost use Rattle.zone_update.specs.Operations.{is_apex_ns, is_at, operated};
 
 use dns_octets::AsOctets;
 use dns_octets::lowered::same_octets;
@@ -13,7 +13,8 @@ use zone_record::Record;
 pub enum Operation<'a, Owner: AsOctets, Octets: AsOctets> {
     /// The record is deleted from its RRset (section 2.5.4). Its TTL has no meaning.
     Delete(&'a Record<Owner, Octets>),
-    /// The record is added to its RRset (section 2.5.1). The RRset gets its TTL.
+    /// The record is added to its RRset (section 2.5.1), or replaces the record of the same RDATA, and
+    /// with it the TTL (section 3.4.2.2). BIND gives the TTL to the whole RRset.
     Add(&'a Record<Owner, Octets>),
 }
 
@@ -46,17 +47,4 @@ pub(crate) fn is_apex_ns<Apex: AsOctets, Owner: AsOctets, Octets: AsOctets>(
     ensures { result ≡ is_apex_ns apex.now one.now }
 {
     one.data.rtype() == RecordType::NS && is_at(apex, one)
-}
-
-/// Returns whether two records are of one RRset: they have the same owner, class and type (RFC 2181
-/// section 5).
-pub fn in_one_rrset<Owner: AsOctets, Octets: AsOctets>(
-    left: &Record<Owner, Octets>,
-    right: &Record<Owner, Octets>,
-) -> bool
-    ensures { result ≡ in_one_rrset left.now right.now }
-{
-    left.class == right.class
-        && left.data.rtype() == right.data.rtype()
-        && is_at(&left.owner, right)
 }
