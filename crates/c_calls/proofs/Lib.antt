@@ -22,6 +22,7 @@ mod RecordCalls
 mod RoomSaid
 mod Rooms
 mod Row
+mod TextStrings
 mod ToldTexts
 mod ValueRooms
 mod Written

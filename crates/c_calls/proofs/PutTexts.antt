@@ -25,7 +25,7 @@ puts_none at octets h =
     record { fits = omega (arith, h); put = ap (λ n. take n octets) same ∙ sym (append-nil (take at octets)); rest = refl; same = refl }
 
 -- one text after the other
-puts_both : (a b : List ℕ) (at : ℕ) (x y z : List ℕ) → PutsAt a at x y → PutsAt b (at + length a) y z → PutsAt (a ++ b) at x z
+pub puts_both : (a b : List ℕ) (at : ℕ) (x y z : List ℕ) → PutsAt a at x y → PutsAt b (at + length a) y z → PutsAt (a ++ b) at x z
 puts_both a b at x y z p q =
     let long = length-append a b in
     let far : at + length a + length b ≡ at + length (a ++ b) = omega (arith, long) in

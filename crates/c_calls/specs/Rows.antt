@@ -1,5 +1,6 @@
 -- Worked examples of the definitions, each computed.
 use Rattle.std.specs.Prelude.{◌≡◌, [], ◌∷◌, ◌++◌, map, codes, decimal, refl, Some, None}
+use Rattle.std.specs.List.{flat_map}
 use Rattle.rdata_values.specs.Classes.{class_text}
 use Rattle.rdata_values.specs.Rtype as Rtype
 use Rattle.rdata_values.specs.Types.{type_rows, type_text}
@@ -7,6 +8,7 @@ use Rattle.zone_reader.specs.declared.ttl.RecordTtl.TheVariants.{Explicit, Defau
 use Rattle.c_calls.specs.Kept.{flagged}
 use Rattle.c_calls.specs.Records.{returned_ttl}
 use Rattle.c_calls.specs.Status.{status_text}
+use Rattle.c_calls.specs.TextData.{string_wire, strings_length}
 use Rattle.c_calls.specs.Reports.{number_of}
 use Rattle.c_calls.specs.declared.outcome.Refusal.TheVariants.{NoRoom, BadPlace, BadTtl, UnknownType, UnknownClass, Closing, OpenParenthesis, OpenQuote, LoneReturn, BadEscape, NotSupported, NoOrigin, NoOwner, RefusedOwner, NoTtl}
 
@@ -38,3 +40,11 @@ ttls = refl
 -- a TTL of a record below 2^31, and two that are not
 returned_ttls : map returned_ttl (Explicit 2147483647 ∷ Default 2147483648 ∷ Last 4294967295 ∷ []) ≡ 2147483647 ∷ 0 ∷ 0 ∷ []
 returned_ttls = refl
+
+-- the lengths of the strings of these numbers of octets
+lengths_of_strings : map strings_length (0 ∷ 1 ∷ 255 ∷ 256 ∷ 510 ∷ 511 ∷ 65279 ∷ []) ≡ 1 ∷ 2 ∷ 256 ∷ 258 ∷ 512 ∷ 514 ∷ 65535 ∷ []
+lengths_of_strings = refl
+
+-- the strings "v=1" and "" as RDATA of TXT
+texts : flat_map string_wire (codes "v=1" ∷ [] ∷ []) ≡ 3 ∷ 118 ∷ 61 ∷ 49 ∷ 0 ∷ []
+texts = refl

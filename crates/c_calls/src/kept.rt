@@ -1,6 +1,7 @@
 //! The state of a zone file between two calls, in plain numbers and octets.
-ghost use Rattle.std.specs.Prelude.{◌≡◌, ◌≤◌, IsTrue, drop, length, take};
+ghost use Rattle.std.specs.Prelude.{◌+◌, ◌≡◌, ◌≤◌, IsTrue, drop, length, take};
 ghost use Rattle.dns_wire.specs.FromOctets.{MakesName};
+ghost use Rattle.c_calls.specs.DataText.{PutsAt};
 ghost use Rattle.c_calls.specs.Kept.{HoldsButOwner, HoldsForLine, HoldsName, HoldsSomeName, HoldsState, KeepsName, KeepsState, KeepsTtl, MakesOrNot, SetsOrigin, first_zone, flagged, known_if, no_kept_name};
 ghost use Rattle.c_calls.specs.Reasons.{refusal_of_name};
 ghost use Rattle.zone_reader.specs.declared.known.NameState.TheVariants.{Unset};
@@ -161,6 +162,14 @@ pub(crate) fn put_over(octets: &[u8], over: &mut [u8])
     ensures rest { drop (length octets.now) over.new ≡ drop (length octets.now) over.old }
 {
     over[..octets.len()].copy_from_slice(octets);
+}
+
+/// Copies octets to an offset of others, where they fit.
+pub(crate) fn put_from(octets: &[u8], at: usize, over: &mut [u8])
+    requires { at + length octets.now ≤ length over.old }
+    ensures { PutsAt octets.now at over.old over.new }
+{
+    put_over(octets, &mut over[at..]);
 }
 
 /// Stores what is known of a name.

@@ -4,7 +4,7 @@ ghost use Rattle.c_calls.specs.DataText.{PrintsData, PrintsOn, PutsAt, ReportsDo
 ghost use Rattle.c_calls.specs.Reports.{ReportsFault, at_start};
 ghost use Rattle.c_calls.specs.declared.outcome.Refusal.TheVariants.{TooLong};
 
-use crate::kept::put_over;
+use crate::kept::put_from;
 use crate::outcome::{Fault, OK, Outcome, Refusal, number_of, refuse};
 use dns_zone::zonefile_fmt::{DisplayKind, ZonefileFmt};
 use rdata_values::RecordType;
@@ -42,7 +42,7 @@ fn put_at(octets: &[u8], at: usize, over: &mut [u8]) -> bool
     if at > over.len() || over.len() - at < octets.len() {
         return false;
     }
-    put_over(octets, &mut over[at..]);
+    put_from(octets, at, over);
     true
 }
 

@@ -1,8 +1,9 @@
 //! Makes record data of any octets.
-ghost use Rattle.std.specs.Prelude.{◌*◌, ◌+◌, ◌<◌, ◌≡◌, ◌≤◌, length};
-ghost use Rattle.c_calls.specs.TextData.{FitsTexts, LacksTexts, RefusesTexts, ReportsTexts, strings_length};
+ghost use Rattle.std.specs.Prelude.{◌+◌, ◌<◌, ◌≡◌, ◌≤◌, drop, length, take};
+ghost use Rattle.c_calls.specs.DataText.{PutsAt};
+ghost use Rattle.c_calls.specs.TextData.{FitsTexts, LacksTexts, PutsStrings, RefusesTexts, ReportsTexts, string_wire, strings_length};
 
-use crate::kept::put_over;
+use crate::kept::put_from;
 use crate::outcome::{Fault, OK, Outcome, Refusal, number_of, refuse};
 
 /// Greatest number of octets of a character string (RFC 1035 section 3.3).
@@ -15,9 +16,7 @@ const MOST: usize = 65279;
 /// Returns the number of octets of strings: one more for each string.
 fn strings_len(count: usize) -> usize
     requires { count ≤ MOST }
-    ensures value { result ≡ strings_length count }
-    ensures more { count + 1 ≤ result }
-    ensures each { 256 * count ≤ 255 * result }
+    ensures { result ≡ strings_length count }
 {
     if count == 0 {
         return 1;
@@ -28,30 +27,39 @@ fn strings_len(count: usize) -> usize
 /// Returns the octets of the first string.
 fn first_string<'t>(octets: &'t [u8]) -> &'t [u8]
     requires { STRING ≤ length octets.now }
-    ensures { length result.now ≡ STRING }
+    ensures { result.now ≡ take STRING octets.now }
 {
     &octets[..STRING]
+}
+
+/// Returns the octets after those of the first string.
+fn after_first<'t>(octets: &'t [u8]) -> &'t [u8]
+    requires { STRING ≤ length octets.now }
+    ensures { result.now ≡ drop STRING octets.now }
+{
+    &octets[STRING..]
 }
 
 /// Copies octets as a character string to an offset.
 fn put_string(octets: &[u8], at: usize, data: &mut [u8])
     requires string { length octets.now ≤ STRING }
     requires room { at + length octets.now + 1 ≤ length data.old }
+    ensures { PutsAt (string_wire octets.now) at data.old data.new }
 {
-    data[at] = octets.len() as u8;
-    put_over(octets, &mut data[at + 1..]);
+    put_from(&[octets.len() as u8], at, data);
+    put_from(octets, at + 1, data);
 }
 
 /// Copies octets as character strings.
 fn put_strings(octets: &[u8], data: &mut [u8])
-    requires more { length octets.now + 1 ≤ length data.old }
-    requires each { 256 * length octets.now ≤ 255 * length data.old }
+    requires { strings_length (length octets.now) ≤ length data.old }
+    ensures { PutsStrings octets.now data.old data.new }
 {
     let mut rest = octets;
     let mut at = 0;
     'strings: while rest.len() > STRING {
         put_string(first_string(rest), at, data);
-        rest = &rest[STRING..];
+        rest = after_first(rest);
         at += STRING + 1;
     }
     put_string(rest, at, data);
@@ -65,7 +73,7 @@ pub fn text_data(octets: &[u8], data: &mut [u8], outcome: &mut Outcome) -> u32
     ensures long { 65279 < length octets.now → RefusesTexts result data.old data.new outcome.new }
     ensures told { length octets.now ≤ 65279 → ReportsTexts (length octets.now) outcome.new }
     ensures lacks { length octets.now ≤ 65279 → LacksTexts octets.now data.old result data.new }
-    ensures fits { length octets.now ≤ 65279 → FitsTexts (length octets.now) data.old result }
+    ensures fits { FitsTexts octets.now data.old result data.new outcome.new }
 {
     if octets.len() > MOST {
         let refusal = Refusal::TooLong;

@@ -43,7 +43,7 @@ pub extern "C" fn dnstext_text_data(octets: &[u8], data: &mut [u8], outcome: &mu
     ensures long { 65279 < length octets.now → RefusesTexts result data.old data.new outcome.new }
     ensures told { length octets.now ≤ 65279 → ReportsTexts (length octets.now) outcome.new }
     ensures lacks { length octets.now ≤ 65279 → LacksTexts octets.now data.old result data.new }
-    ensures fits { length octets.now ≤ 65279 → FitsTexts (length octets.now) data.old result }
+    ensures fits { FitsTexts octets.now data.old result data.new outcome.new }
 {
     text_data(octets, data, outcome)
 }
