@@ -6,6 +6,7 @@ mod InCalls
 mod KeptNames
 mod KindsElse
 mod LastEnds
+mod LastLabels
 mod Leading
 mod LeftOpen
 mod Lengths

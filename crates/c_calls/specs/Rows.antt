@@ -1,11 +1,12 @@
 -- Worked examples of the definitions, each computed.
-use Rattle.std.specs.Prelude.{◌≡◌, [], ◌∷◌, ◌++◌, map, codes, decimal, refl, Some, None}
+use Rattle.std.specs.Prelude.{◌≡◌, true, false, [], ◌∷◌, ◌++◌, map, codes, decimal, refl, Some, None}
 use Rattle.std.specs.List.{flat_map}
 use Rattle.rdata_values.specs.Classes.{class_text}
 use Rattle.rdata_values.specs.Rtype as Rtype
 use Rattle.rdata_values.specs.Types.{type_rows, type_text}
 use Rattle.zone_reader.specs.declared.ttl.RecordTtl.TheVariants.{Explicit, Default, Last}
 use Rattle.c_calls.specs.Kept.{flagged}
+use Rattle.c_calls.specs.NameForms.{ends_with_name}
 use Rattle.c_calls.specs.Records.{returned_ttl}
 use Rattle.c_calls.specs.Status.{status_text}
 use Rattle.c_calls.specs.TextData.{string_wire, strings_length}
@@ -48,3 +49,11 @@ lengths_of_strings = refl
 -- the strings "v=1" and "" as RDATA of TXT
 texts : flat_map string_wire (codes "v=1" ∷ [] ∷ []) ≡ 3 ∷ 118 ∷ 61 ∷ 49 ∷ 0 ∷ []
 texts = refl
+
+-- `www.Example.` ends with `example.`, with the root and with no labels, but not with `www.`, `ple.` or the relative `example`
+ends : map (ends_with_name (codes "www" ∷ codes "Example" ∷ [] ∷ [])) ((codes "example" ∷ [] ∷ []) ∷ ([] ∷ []) ∷ [] ∷ (codes "www" ∷ [] ∷ []) ∷ (codes "ple" ∷ [] ∷ []) ∷ (codes "example" ∷ []) ∷ [])
+    ≡ true ∷ true ∷ true ∷ false ∷ false ∷ false ∷ []
+ends = refl
+
+longer_zone : ends_with_name (codes "example" ∷ [] ∷ []) (codes "www" ∷ codes "example" ∷ [] ∷ []) ≡ false
+longer_zone = refl

@@ -1,11 +1,12 @@
 //! The canonical form and order of names, and their last labels.
 ghost use Rattle.std.specs.Prelude.{◌≡◌, ◌≤◌, length};
 ghost use Rattle.dns_octets.specs.Lowered.{lowered};
+ghost use Rattle.dns_name.specs.Uncertain.{labels_of};
 ghost use Rattle.dns_wire.specs.Order.{lowered_wire};
 ghost use Rattle.dns_wire.specs.Wire.{wire};
 ghost use Rattle.rdata_tokens.specs.NameSpelling.{IsWireName};
 ghost use Rattle.zone_record.specs.Names.{name_order};
-ghost use Rattle.c_calls.specs.NameForms.{ComparesNames, IsAbsoluteOf, order_number};
+ghost use Rattle.c_calls.specs.NameForms.{ComparesNames, IsAbsoluteOf, IsSomeNameOf, ReportsEndsWith, ends_with_name, order_number};
 ghost use Rattle.c_calls.specs.Names.{PrintsName};
 ghost use Rattle.c_calls.specs.Reports.{CopiesWhole, ReportsFault, at_start};
 
@@ -17,7 +18,7 @@ use arrayvec::ArrayVec;
 use dns_name::name::UncertainName;
 use dns_octets::AsOctets;
 use dns_octets::lowered::same_octets;
-use dns_wire::{MAX_NAME, NameIter};
+use dns_wire::MAX_NAME;
 use std::cmp::Ordering;
 use zone_reader::NameBuffer;
 use zone_record::names::{append_lowered, compare_names};
@@ -119,55 +120,49 @@ pub fn name_compare(a: &[u8], b: &[u8], order: &mut i32, outcome: &mut Outcome) 
     }
 }
 
-/// Returns why octets are not a name, or `None` if they are one. No octets are the relative name of
+/// Returns the name that some octets are, or why they are not one. No octets are the relative name of
 /// no labels.
-fn refusal_of_any(octets: &[u8]) -> Option<Refusal> {
+fn some_name_of<'a>(octets: &'a [u8]) -> Result<UncertainName<&'a [u8]>, Refusal>
+    ensures { IsSomeNameOf octets.now result }
+{
     if octets.is_empty() {
-        return None;
+        return Ok(UncertainName::empty_ref());
     }
     match UncertainName::from_octets(octets) {
-        Ok(_) => None,
-        Err(error) => Some(refusal_of_octets(error)),
+        Ok(name) => Ok(name),
+        Err(error) => Err(refusal_of_octets(error)),
     }
 }
 
-/// Returns whether labels end with those of some octets, without regard to case.
-fn labels_end_with(labels: NameIter<'_>, zone: &[u8]) -> bool {
-    let mut rest = labels;
-    'labels: while rest.as_slice().len() > zone.len() {
+/// Returns whether the last labels of a name are those of another one, without regard to case.
+fn ends_with(name: &UncertainName<&[u8]>, zone: &UncertainName<&[u8]>) -> bool
+    ensures { result ≡ ends_with_name (labels_of name.now) (labels_of zone.now) }
+{
+    let last = zone.as_slice();
+    let mut rest = name.iter_labels();
+    'labels: while rest.as_slice().len() > last.len() {
         if rest.next().is_none() {
             return false;
         }
     }
-    same_octets(rest.as_slice(), zone)
-}
-
-/// Returns whether a name ends with the labels of another one.
-fn ends_with(name: &[u8], zone: &[u8]) -> bool {
-    if zone.is_empty() {
-        return true;
-    }
-    if name.is_empty() {
-        return false;
-    }
-    match UncertainName::from_octets(name) {
-        Ok(read) => labels_end_with(read.iter_labels(), zone),
-        Err(_) => false,
-    }
+    same_octets(rest.as_slice(), last)
 }
 
 /// Writes whether the last labels of a name are those of another one, without regard to case.
 ///
 /// Fails with place 0 if octets are not a name, those of `name` first; then `does` is unchanged.
-pub fn name_ends_with(name: &[u8], zone: &[u8], does: &mut u8, outcome: &mut Outcome) -> u32 {
-    if let Some(refusal) = refusal_of_any(name) {
-        return refuse_octets(refusal, outcome);
-    }
-    match refusal_of_any(zone) {
-        None => {
-            *does = bit(ends_with(name, zone));
+pub fn name_ends_with(name: &[u8], zone: &[u8], does: &mut u8, outcome: &mut Outcome) -> u32
+    ensures { ReportsEndsWith name.now zone.now does.old result does.new outcome.new }
+{
+    let labels = match some_name_of(name) {
+        Ok(labels) => labels,
+        Err(refusal) => return refuse_octets(refusal, outcome),
+    };
+    match some_name_of(zone) {
+        Ok(last) => {
+            *does = bit(ends_with(&labels, &last));
             accept(outcome)
         }
-        Some(refusal) => refuse_octets(refusal, outcome),
+        Err(refusal) => refuse_octets(refusal, outcome),
     }
 }

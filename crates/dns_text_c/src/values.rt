@@ -1,7 +1,7 @@
 //! Strings, names, numbers, TTLs, types, classes and encodings.
 ghost use Rattle.c_calls.specs.Codecs.{DecodesText, PrintsOctets};
 ghost use Rattle.c_calls.specs.Kinds.{ReportsCode};
-ghost use Rattle.c_calls.specs.NameForms.{ComparesNames};
+ghost use Rattle.c_calls.specs.NameForms.{ComparesNames, ReportsEndsWith};
 ghost use Rattle.c_calls.specs.NameWords.{ReportsWordName};
 ghost use Rattle.c_calls.specs.Names.{NameAnswer, PrintsName, ReadsNameText, ReportsName, dotted_octets, undotted_octets};
 ghost use Rattle.c_calls.specs.Numbers.{ReportsNumber};
@@ -173,7 +173,9 @@ pub extern "C" fn dnstext_name_ends_with(
     zone: &[u8],
     does: &mut u8,
     outcome: &mut Outcome,
-) -> u32 {
+) -> u32
+    ensures { ReportsEndsWith name.now zone.now does.old result does.new outcome.new }
+{
     name_ends_with(name, zone, does, outcome)
 }
 
