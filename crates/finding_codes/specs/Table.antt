@@ -3,7 +3,7 @@ use Rattle.std.specs.Prelude.{ℕ, List, [], ◌∷◌, codes, true, false, get_
 use denote.Enum.Declared.{tag_of}
 use Rattle.finding_codes.specs.contracts.code.Code.{the_type}
 use Rattle.finding_codes.specs.declared.code.Code.{Code}
-use Rattle.finding_codes.specs.declared.code.Code.TheVariants.{OpenQuote, OpenParenthesis, ClosingParenthesis, LoneReturn, BadEscape, Nul, ByteOrderMark, ControlZ, MaxEntry, Directive, Owner, Ttl, Class, RecordType, Data, Include, NoOwner, NoTtl, OtherClass, NoSoa, TwoSoas, NoNs, NsAddress, Cname, Dname, DsApex, WildcardNs, SoaNotApex, NsBesideDname, Nsec3Wildcard, BelowDname, Outside, MaxTtl, NoOrigin, HighOctet, ControlOctet, Crlf, NestedParentheses, LeadingParenthesis, AdjacentTokens, NoFinalNewline, RelativeOrigin, SoaMinimumTtl, IncludeTtl, MissingDot, GenerateDot, EmptyUri, TlsaLength, IpseckeyAlgorithm, OhttpValue, Glue, TargetCname, TargetMissing, HostName, Cds, TtlDiffers, Duplicate, NotAtApex, KeyProtocol, KeyAlgorithm, CnameTargetMissing, CnameLoop, TwoSpf, WeakDigest, SingleNs, Hidden, NoDnskey, Expired, ExpiresSoon, NotYetValid, RrsigTimes, RrsigSigner, RrsigLabels, OriginalTtl, RrsigTtl, Unsigned, NoKey, KeyMissing, RrsigKey, SignsNothing, OccludedDnssec, NoNsec, NsecNext, NsecTypes, DsWithoutNs, NoNsec3, Nsec3Next, Nsec3Types, Nsec3Owner, Nsec3Iterations, Nsec3Iterations50, Nsec3Iterations0, NsecTtl, CdsDelete, RrsigLength, KeyLength, SpfType, NaptrRegexp, NaptrBoth, CaaTag, SoaMail, SoaTimers, ReverseName, WildcardInside, TargetAddress, TxtWords, CommentInData, PtrDot, TlsaField, CaaValue, NullMx, ZonemdSerial, TlsaHost, SvcbAlias, Exception, UnusedAllow}
+use Rattle.finding_codes.specs.declared.code.Code.TheVariants.{OpenQuote, OpenParenthesis, ClosingParenthesis, LoneReturn, BadEscape, Nul, ByteOrderMark, ControlZ, MaxEntry, Directive, Owner, Ttl, Class, RecordType, Data, Include, File, NoOwner, NoTtl, OtherClass, NoSoa, TwoSoas, NoNs, NsAddress, Cname, Dname, DsApex, WildcardNs, SoaNotApex, NsBesideDname, Nsec3Wildcard, BelowDname, Outside, MaxTtl, NoOrigin, HighOctet, ControlOctet, Crlf, NestedParentheses, LeadingParenthesis, AdjacentTokens, NoFinalNewline, RelativeOrigin, SoaMinimumTtl, IncludeTtl, MissingDot, GenerateDot, EmptyUri, TlsaLength, IpseckeyAlgorithm, OhttpValue, Glue, TargetCname, TargetMissing, HostName, Cds, TtlDiffers, Duplicate, NotAtApex, KeyProtocol, KeyAlgorithm, CnameTargetMissing, CnameLoop, TwoSpf, WeakDigest, SingleNs, Hidden, NoDnskey, Expired, ExpiresSoon, NotYetValid, RrsigTimes, RrsigSigner, RrsigLabels, OriginalTtl, RrsigTtl, Unsigned, NoKey, KeyMissing, RrsigKey, SignsNothing, OccludedDnssec, NoNsec, NsecNext, NsecTypes, DsWithoutNs, NoNsec3, Nsec3Next, Nsec3Types, Nsec3Owner, Nsec3Iterations, Nsec3Iterations50, Nsec3Iterations0, NsecTtl, CdsDelete, RrsigLength, KeyLength, SpfType, NaptrRegexp, NaptrBoth, CaaTag, SoaMail, SoaTimers, ReverseName, WildcardInside, TargetAddress, TxtWords, CommentInData, PtrDot, TlsaField, CaaValue, NullMx, ZonemdSerial, TlsaHost, SvcbAlias, Exception, UnusedAllow}
 use Rattle.finding_codes.specs.declared.code.Scope.{Scope}
 use Rattle.finding_codes.specs.declared.code.Scope.TheVariants.{Text as OfText, Records as OfRecords, MaxTtl as OfTtl, Zone as OfZone, Signed as OfSigned}
 use Rattle.finding_codes.specs.declared.code.Severity.{Severity}
@@ -75,6 +75,7 @@ finding_rows =
     finding_row RecordType (codes "type") Error OfRecords none Whole [] ∷
     finding_row Data (codes "data") Error OfRecords none Whole [] ∷
     finding_row Include (codes "include") Error OfRecords none Whole [] ∷
+    finding_row File (codes "file") Error OfRecords none Whole [] ∷
     finding_row NoOwner (codes "no-owner") Error OfRecords none Whole [] ∷
     finding_row NoTtl (codes "no-ttl") Error OfRecords none Whole [] ∷
     finding_row OtherClass (codes "other-class") Error OfRecords none Whole (codes "another class than the zone's") ∷

@@ -78,6 +78,8 @@ pub enum Code {
     Data,
     /// A file can't be included.
     Include,
+    /// The zone file can't be read.
+    File,
     /// The first record has no owner.
     NoOwner,
     /// No TTL is known.

@@ -128,7 +128,7 @@ macro_rules! way {
     };
 }
 
-static TABLE: [Row; 116] = [
+static TABLE: [Row; 117] = [
     row!(OpenQuote => "open-quote", Error, Text, TEXT_FAULT, WHOLE, ""),
     row!(OpenParenthesis => "open-parenthesis", Error, Text, TEXT_FAULT, WHOLE, ""),
     row!(ClosingParenthesis => "closing-parenthesis", Error, Text, TEXT_FAULT, WHOLE, ""),
@@ -145,6 +145,7 @@ static TABLE: [Row; 116] = [
     row!(RecordType => "type", Error, Records, NONE, WHOLE, ""),
     row!(Data => "data", Error, Records, NONE, WHOLE, ""),
     row!(Include => "include", Error, Records, NONE, WHOLE, ""),
+    row!(File => "file", Error, Records, NONE, WHOLE, ""),
     row!(NoOwner => "no-owner", Error, Records, NONE, WHOLE, ""),
     row!(NoTtl => "no-ttl", Error, Records, NONE, WHOLE, ""),
     row!(OtherClass => "other-class", Error, Records, NONE, WHOLE, "another class than the zone's"),
@@ -314,7 +315,7 @@ pub fn ways() -> &'static [Way; 11]
 }
 
 /// Returns the rows of all codes, in their order.
-pub fn rows() -> &'static [Row; 116]
+pub fn rows() -> &'static [Row; 117]
     ensures { map row_seen result.now ≡ finding_rows }
 {
     &TABLE

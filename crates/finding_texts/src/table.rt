@@ -21,6 +21,7 @@ pub fn summary_of(code: Code) -> &'static str {
         Code::RecordType => "The type of a record is unknown or missing",
         Code::Data => "The RDATA of a record is not that of its type",
         Code::Include => "A file is not included",
+        Code::File => "A zone file can't be read",
         Code::NoOwner => "A record has no owner",
         Code::NoTtl => "A record has no TTL, and none is known",
         Code::OtherClass => "A record has another class than the zone",
@@ -166,6 +167,8 @@ pub fn text_of(code: Code) -> &'static str {
             "The message names the type and the field, and what was expected. Data of any type can be written as \\# LENGTH HEX (RFC 3597 section 5).",
         Code::Include =>
             "It can't be read, is outside of the folders that are allowed (--include DIR), includes itself, or is nested too deep (RFC 1035 section 5.1).",
+        Code::File =>
+            "It is missing, is a folder, or may not be read. The finding is where a configuration or a list names the file, or else at the start of the file. Other zones are checked, and the status is 3.",
         Code::NoOwner =>
             "It begins with a blank, so it has the owner of the record before, and there is none, or that owner was rejected (RFC 1035 section 5.1).",
         Code::NoTtl =>
@@ -379,6 +382,7 @@ pub fn example_of(code: Code) -> &'static str {
         Code::RecordType => "a AAA 192.0.2.2",
         Code::Data => "a A 192.0.2.256",
         Code::Include => "$INCLUDE missing.db",
+        Code::File => "zone \"example\" { type primary; file \"missing.db\"; };",
         Code::NoOwner => "a..b A 192.0.2.2\n  A 192.0.2.3",
         Code::NoTtl => "a A 192.0.2.2",
         Code::OtherClass => "a CH TXT \"b\"",
