@@ -1,3 +1,4 @@
+pub mod Ascii
 pub mod Mistakes
 pub mod Rows
 pub mod Similar
