@@ -13,6 +13,7 @@ mod OwnDigests
 pub mod OwnRecords
 mod PairTests
 pub mod Searches
+pub mod SetEnds
 pub mod SharedNames
 pub mod Steps
 pub mod Subjects

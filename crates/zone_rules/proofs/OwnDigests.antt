@@ -42,18 +42,18 @@ tie_by R a m b p q Less r e f g h k = absurd (false≢true (sym (ap (λ c. is_le
 tie_by R a m b p q Equal r e f g h k = (e, f ∙ g, h, ap (λ c. is_le (ordering_then c q)) (sym g) ∙ k)
 tie_by R a m b p q Greater r e f g h k = absurd (false≢true h)
 
-tie_between : {X : Type 0} {R : X → X → Ordering} (o : IsTotalOrder R) (a m b : X) (p q : Ordering) → R a b ≡ Equal → is_le (ordering_then (R a m) p) ≡ true → is_le (ordering_then (R m b) q) ≡ true → Ties R a m b p q
+pub tie_between : {X : Type 0} {R : X → X → Ordering} (o : IsTotalOrder R) (a m b : X) (p q : Ordering) → R a b ≡ Equal → is_le (ordering_then (R a m) p) ≡ true → is_le (ordering_then (R m b) q) ≡ true → Ties R a m b p q
 tie_between {X} {R} o a m b p q tie h k =
     tie_by R a m b p q (R a m) (R m b) refl refl (sym (alike_right o a b m tie) ∙ o.antisymm m a) h k
 
-number_tie : (m n : ℕ) → m ≡ n → nat_cmp m n ≡ Equal
+pub number_tie : (m n : ℕ) → m ≡ n → nat_cmp m n ≡ Equal
 number_tie m n e = ap (nat_cmp m) (sym e) ∙ tied_itself nat_cmp_total m
 
 -- octets between others that begin with the same octet
 abbrev BeginsWith : (x : ℕ) → (low m high : List ℕ) → Type 0
 BeginsWith x low m high = (ms : List ℕ) × (m ≡ x ∷ ms) × (is_le (octet_order low ms) ≡ true) × (is_le (octet_order ms high) ≡ true)
 
-first_between : (x : ℕ) (low m high : List ℕ) → is_le (octet_order (x ∷ low) m) ≡ true → is_le (octet_order m (x ∷ high)) ≡ true → BeginsWith x low m high
+pub first_between : (x : ℕ) (low m high : List ℕ) → is_le (octet_order (x ∷ low) m) ≡ true → is_le (octet_order m (x ∷ high)) ≡ true → BeginsWith x low m high
 first_between x low [] high h k = absurd (false≢true h)
 first_between x low (y ∷ ms) high h k =
     let t = tie_between nat_cmp_total x y x (octet_order low ms) (octet_order ms high) (tied_itself nat_cmp_total x) h k in
@@ -67,12 +67,25 @@ module _ {N O : Type 0} (records : List (Record N O)) (order : AreInOrder record
       searchable_from_sorted records_total record_key records (record_key target)
       (λ k d low lt. back_not (record_order (record_key (get_or records k d)) (record_key (get_or records (k + 1) d))) _ (records_total.antisymm (record_key (get_or records (k + 1) d)) (record_key (get_or records k d))) (order k d lt))
 
-  at_most : (i j : ℕ) (d : Record N O) → i ≤ j → j < length records → is_le (record_order (record_key (get_or records i d)) (record_key (get_or records j d))) ≡ true
+  pub at_most : (i j : ℕ) (d : Record N O) → i ≤ j → j < length records → is_le (record_order (record_key (get_or records i d)) (record_key (get_or records j d))) ≡ true
   at_most i j d low lt =
       let target = get_or records j d in
       sym (le_index (record_order (record_key (get_or records i d)) (record_key target)))
       ∙ IsPartitionedBy-leb (λ r. ordering_index (record_order (record_key r) (record_key target))) records 1 (rise target) i j d low lt
       (le_index (record_order (record_key target) (record_key target)) ∙ ap is_le (tied_itself records_total (record_key target)))
+
+-- a record between others of one owner, class and type
+abbrev pub IsLikeBetween : {N O M P : Type 0} → (a : Record M P) (m : Record N O) (b : Record M P) → Type 0
+IsLikeBetween a m b =
+    (name_order a.owner m.owner ≡ Equal) × (a.class ≡ m.class) × (type_of m ≡ type_of a) × (is_le (octet_order (record_key a).octets (record_key m).octets) ≡ true) × (is_le (octet_order (record_key m).octets (record_key b).octets) ≡ true)
+
+pub like_between : {N O M P : Type 0} (a : Record M P) (m : Record N O) (b : Record M P) → is_le (record_order (record_key a) (record_key m)) ≡ true → is_le (record_order (record_key m) (record_key b)) ≡ true → name_order a.owner b.owner ≡ Equal → a.class ≡ b.class
+    → type_of a ≡ type_of b → IsLikeBetween a m b
+like_between a m b h k owner class rtype =
+    let o = tie_between names_total a.owner m.owner b.owner _ _ owner h k in
+    let c = tie_between nat_cmp_total a.class m.class b.class _ _ (number_tie a.class b.class class) o.2 o.3 in
+    let t = tie_between nat_cmp_total (type_of a) (type_of m) (type_of b) _ _ (number_tie (type_of a) (type_of b) rtype) c.2 c.3 in
+    (o.0, ranked a.class m.class Equal (sym c.0), sym (ranked (type_of a) (type_of m) Equal (sym t.0)), t.2, t.3)
 
 -- DS between others of one owner and class
 abbrev IsDsBetween : {N O : Type 0} → (a m b : Record N O) → Type 0
@@ -84,23 +97,16 @@ canonical_ds rtype octets e = ap (λ t. canonical_data t octets) e
 ds_between : {N O : Type 0} (a m b : Record N O) → is_le (record_order (record_key a) (record_key m)) ≡ true → is_le (record_order (record_key m) (record_key b)) ≡ true → name_order a.owner b.owner ≡ Equal → a.class ≡ b.class
     → type_of a ≡ Rtype.ds → type_of b ≡ Rtype.ds → IsDsBetween a m b
 ds_between a m b h k owner class ds other =
-    let o = tie_between names_total a.owner m.owner b.owner _ _ owner h k in
-    let c = tie_between nat_cmp_total a.class m.class b.class _ _ (number_tie a.class b.class class) o.2 o.3 in
-    let t = tie_between nat_cmp_total (type_of a) (type_of m) (type_of b) _ _ (number_tie (type_of a) (type_of b) (ds ∙ sym other)) c.2 c.3 in
-    let is : type_of m ≡ Rtype.ds = sym (ranked (type_of a) (type_of m) Equal (sym t.0)) ∙ ds in
+    let l = like_between a m b h k owner class (ds ∙ sym other) in
+    let is : type_of m ≡ Rtype.ds = l.2 ∙ ds in
     let left = canonical_ds (type_of a) (data_of a).octets ds in
     let middle = canonical_ds (type_of m) (data_of m).octets is in
-    let right = canonical_ds (type_of b) (data_of b).octets other in (
-      o.0,
-      ranked a.class m.class Equal (sym c.0),
-      is,
-      sym (λ i. is_le (octet_order (left i) (middle i))) ∙ t.2,
-      sym (λ i. is_le (octet_order (middle i) (right i))) ∙ t.3,
-    )
+    let right = canonical_ds (type_of b) (data_of b).octets other in
+    (l.0, l.1, is, sym (λ i. is_le (octet_order (left i) (middle i))) ∙ l.3, sym (λ i. is_le (octet_order (middle i) (right i))) ∙ l.4)
 
 -- ---- octets that begin with a key tag and an algorithm
 
-both : (b c : Bool) → (b && c) ≡ true → (b ≡ true) × (c ≡ true)
+pub both : (b c : Bool) → (b && c) ≡ true → (b ≡ true) × (c ≡ true)
 both true c h = (refl, h)
 both false c h = absurd (false≢true h)
 
@@ -161,7 +167,7 @@ module _ (x y z : ℕ) where
 
 -- ---- DS of one owner, class and key
 
-tie_of : (a b : List (List ℕ)) → same_name a b ≡ true → name_order a b ≡ Equal
+pub tie_of : (a b : List (List ℕ)) → same_name a b ≡ true → name_order a b ≡ Equal
 tie_of a b h = (Equal-is (name_order a b)).0 (sym (same_is a b) ∙ h)
 
 of_tie : (a b : List (List ℕ)) → name_order a b ≡ Equal → same_name a b ≡ true

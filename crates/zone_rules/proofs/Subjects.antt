@@ -21,7 +21,7 @@ use Rattle.zone_rules.specs.Spf.{is_spf}
 use Rattle.zone_rules.specs.Subjects.{alike, is_apex_server, is_server_above, relates, wants_host, AreHostFaults, IsSubject}
 use Rattle.zone_rules.specs.Zones.{as_listed, comes_before, host_of, is_equal_record, record_before, type_of}
 use Rattle.zone_rules.specs.declared.beside.Relation.{Relation}
-use Rattle.zone_rules.specs.declared.beside.Relation.TheVariants.{Alias, Spf, Digest, Sha1, SameType, OtherSerial, Service, ServiceAlias}
+use Rattle.zone_rules.specs.declared.beside.Relation.TheVariants.{Alias, Spf, Digest, Sha1, SameType, OtherSerial, Service}
 use Rattle.zone_rules.specs.declared.refused.RrsetName.{RrsetName}
 use Rattle.zone_rules.specs.declared.subject.HostFaults.{HostFaults}
 use Rattle.zone_rules.specs.declared.subject.Subject.{Subject}
@@ -101,7 +101,6 @@ listed_related R S Sha1 one (Some r) = refl
 listed_related R S SameType one (Some r) = refl
 listed_related R S OtherSerial one (Some r) = refl
 listed_related R S Service one (Some r) = refl
-listed_related R S ServiceAlias one (Some r) = refl
 
 pub related_listed : {N O M P R S : Type 0} (relation : Relation) (one : Record M P) (o : Option (Record N O)) (got : Option (Record R S)) → got ≡ option_map as_listed o
     → option_map_or (relates relation one) got false ≡ option_map_or (relates relation one) o false
@@ -145,7 +144,6 @@ related_owned Sha1 one r h = ap (λ b. (b && (r.class == one.class && (type_of r
 related_owned SameType one r h = ap (λ b. b && (type_of r == type_of one && not (is_equal_record one r))) h
 related_owned OtherSerial one r h = ap (λ b. b && (type_of r == Rtype.soa && not (has_serial_of one r))) h
 related_owned Service one r h = ap (λ b. (b && (type_of r == type_of one && not (is_equal_record one r))) && not (is_alias_mode r)) h
-related_owned ServiceAlias one r h = ap (λ b. (b && (type_of r == type_of one && not (is_equal_record one r))) && is_alias_mode r) h
 
 -- no record passes a test that is of an owner if none of those at this owner does
 module _ {N O : Type 0} (p : Record N O → Bool) (name : List (List ℕ)) (records : List (Record N O)) (first past : ℕ) (owned : AreOwnedFrom name records first past)

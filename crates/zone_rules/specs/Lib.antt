@@ -7,6 +7,7 @@ pub mod Rows
 pub mod RulesByType
 pub mod Rules
 pub mod Searches
+pub mod Sets
 pub mod Spf
 pub mod Subjects
 pub mod Zones

@@ -6,6 +6,7 @@ ghost use Rattle.zone_rules.specs.Rules.{has_spf_before, is_alias_in_company, is
 ghost use Rattle.zone_rules.specs.Subjects.{relates, relates_at, BeginsSha1, EndsSha1, IsRecordAt};
 ghost use Rattle.zone_rules.specs.Zones.{type_of};
 
+use crate::by_set::has_related_by_set;
 use crate::hosts::names_server;
 use crate::keys::{is_of_same_key, is_of_sha1};
 use crate::names::is_same;
@@ -35,8 +36,6 @@ pub enum Relation {
     OtherSerial,
     /// The other one has the same type and differs, and is a service in ServiceMode.
     Service,
-    /// The same, in AliasMode.
-    ServiceAlias,
 }
 
 /// Returns whether the owner of a CNAME may have records of a type besides it (RFC 4035 section 2.5).
@@ -96,12 +95,11 @@ fn is_related(relation: Relation, record: &ZoneRecord<'_>, other: &ZoneRecord<'_
         Relation::SameType => is_other_of_type(record, other),
         Relation::OtherSerial => is_soa_of_other_serial(record, other),
         Relation::Service => is_other_of_type(record, other) && !is_alias_mode(other),
-        Relation::ServiceAlias => is_other_of_type(record, other) && is_alias_mode(other),
     }
 }
 
 /// Returns whether a record has a relation to the one at an index.
-fn is_related_at<Z: ZoneRecords>(
+pub(crate) fn is_related_at<Z: ZoneRecords>(
     records: &Z,
     relation: Relation,
     record: &ZoneRecord<'_>,
@@ -260,7 +258,8 @@ pub(crate) fn has_company<Z: ZoneRecords>(
     requires { IsRecordAt (Z.contents records.now) place «record».now }
     ensures { result ≡ is_alias_in_company (Z.contents records.now) «record».now }
 {
-    record.data.rtype() == RecordType::CNAME && has_related(records, Relation::Alias, place, record)
+    record.data.rtype() == RecordType::CNAME
+        && has_related_by_set(records, Relation::Alias, place, record)
 }
 
 /// Returns whether a record has an SPF record, and so has an earlier one at its owner.
@@ -309,5 +308,5 @@ pub(crate) fn is_lone_server<Z: ZoneRecords>(
     is_same(owner, origin)
         && names_server(record)
         && !lists_set(refused, owner, RecordType::NS)
-        && !has_related(records, Relation::SameType, place, record)
+        && !has_related_by_set(records, Relation::SameType, place, record)
 }

@@ -3,6 +3,7 @@
 
 pub mod aliases;
 pub mod beside;
+mod by_set;
 pub mod check;
 pub mod fields;
 mod hash_owners;

@@ -3,7 +3,8 @@ ghost use Rattle.std.specs.Prelude.{◌≡◌};
 ghost use Rattle.zone_rules.specs.Rules.{is_null_mx, is_null_mx_beside};
 ghost use Rattle.zone_rules.specs.Subjects.{IsRecordAt};
 
-use crate::beside::{Relation, has_related};
+use crate::beside::Relation;
+use crate::by_set::has_related_by_set;
 use crate::hosts::{host, is_of_zone};
 use crate::refused::SortedSets;
 use crate::zone_records::{ZoneRecord, ZoneRecords};
@@ -30,5 +31,5 @@ pub(crate) fn is_null_mx_beside<Z: ZoneRecords>(
 {
     is_null_mx(one)
         && is_of_zone(origin, records, refused, &one.owner)
-        && has_related(records, Relation::SameType, place, one)
+        && has_related_by_set(records, Relation::SameType, place, one)
 }

@@ -1,10 +1,11 @@
 //! Checks services (SVCB and HTTPS, RFC 9460).
-ghost use Rattle.std.specs.Prelude.{◌≡◌};
+ghost use Rattle.std.specs.Prelude.{◌≡◌, true};
 ghost use Rattle.zone_rules.specs.Rules.{after_priority, has_svc_params, has_wrong_alias, is_absent, is_alias_mode, is_service_type, is_wrong_alias, names_no_service, service_target};
 ghost use Rattle.zone_rules.specs.Subjects.{IsRecordAt};
 
 use crate::aliases::is_without_records;
-use crate::beside::{Relation, has_related};
+use crate::beside::Relation;
+use crate::by_set::has_related_by_set;
 use crate::fields::field;
 use crate::host_names::named_host;
 use crate::hosts::{but_root, is_host_missing, is_of_zone};
@@ -102,11 +103,14 @@ fn has_svc_params(record: &ZoneRecord<'_>) -> bool
 
 /// Returns whether a service in AliasMode is one of several of its name, and none is in ServiceMode.
 fn is_one_of_aliases<Z: ZoneRecords>(records: &Z, place: usize, record: &ZoneRecord<'_>) -> bool
-    requires { IsRecordAt (Z.contents records.now) place «record».now }
+    requires at { IsRecordAt (Z.contents records.now) place «record».now }
+    requires alias { is_alias_mode «record».now ≡ true }
     ensures { result ≡ is_wrong_alias 2 (Z.contents records.now) «record».now }
 {
-    !has_related(records, Relation::Service, place, record)
-        && has_related(records, Relation::ServiceAlias, place, record)
+    if has_related_by_set(records, Relation::Service, place, record) {
+        return false;
+    }
+    has_related_by_set(records, Relation::SameType, place, record)
 }
 
 /// Returns whether a service in AliasMode is wrong: it has parameters, it is beside others in
@@ -117,13 +121,14 @@ fn is_wrong_alias<Z: ZoneRecords>(
     place: usize,
     record: &ZoneRecord<'_>,
 ) -> bool
-    requires { IsRecordAt (Z.contents records.now) place «record».now }
+    requires at { IsRecordAt (Z.contents records.now) place «record».now }
+    requires alias { is_alias_mode «record».now ≡ true }
     ensures { result ≡ is_wrong_alias way (Z.contents records.now) «record».now }
 {
     if way == 0 {
         has_svc_params(record)
     } else if way == 1 {
-        has_related(records, Relation::Service, place, record)
+        has_related_by_set(records, Relation::Service, place, record)
     } else {
         is_one_of_aliases(records, place, record)
     }

@@ -3,7 +3,8 @@ ghost use Rattle.std.specs.Prelude.{◌≡◌};
 ghost use Rattle.zone_rules.specs.Rules.{has_other_serial, has_serial_of, is_soa_of_other_serial};
 ghost use Rattle.zone_rules.specs.Subjects.{IsRecordAt};
 
-use crate::beside::{Relation, has_related};
+use crate::beside::Relation;
+use crate::by_set::has_related_by_set;
 use crate::fields::field;
 use crate::owners::is_apex_record;
 use crate::pairs::have_one_owner;
@@ -38,5 +39,5 @@ pub(crate) fn has_other_serial<Z: ZoneRecords>(
     ensures { result ≡ has_other_serial origin.now (Z.contents records.now) «record».now }
 {
     is_apex_record(RecordType::ZONEMD, origin, record)
-        && has_related(records, Relation::OtherSerial, place, record)
+        && has_related_by_set(records, Relation::OtherSerial, place, record)
 }
