@@ -1,36 +1,9 @@
 -- The values of CAA: the grammar of `issue` (RFC 8659 section 4.2), which `issuewild` (section 4.3), `issuemail` (RFC 9495 section 3) and `issuevmc` have too, and the URLs of `iodef` (section 4.4).
-use Rattle.std.specs.Prelude.{◌≡◌, ◌<◌, ℕ, ◌+◌, ◌-◌, ◌==◌, ◌&&◌, ◌||◌, not, nat_le, if◌then◌else◌, Bool, true, false, Option, Some, None, List, [], ◌∷◌, length, take, drop, slice_get, codes}
+use Rattle.std.specs.Prelude.{ℕ, ◌-◌, ◌==◌, ◌&&◌, ◌||◌, not, nat_le, if◌then◌else◌, Bool, true, false, Option, Some, None, List, [], ◌∷◌, length, take, drop, slice_get, codes}
 use Rattle.std.specs.Char.{is_ascii_alphanumeric}
-use Rattle.std.specs.List.{before_first, list_all, position, position_or_len, slice_split}
-use Rattle.std.specs.Option.{option_map, option_map_or}
-use Rattle.dns_octets.specs.Lowered.{same_lowered}
-
--- ---- parts
-
--- the octets before the first of an octet, or all
-abbrev pub caa_part_before : ℕ → List ℕ → List ℕ
-caa_part_before d octets = before_first (λ o. o == d) octets
-
--- the octets after it
-abbrev pub caa_part_after : ℕ → List ℕ → Option (List ℕ)
-caa_part_after d octets = option_map (λ place. drop (place + 1) octets) (position (λ o. o == d) octets)
-
--- the parts between those octets
-abbrev pub parts_between : ℕ → List ℕ → List (List ℕ)
-parts_between d octets = slice_split (λ o. o == d) octets
-
--- a part, and the octets after the octet that ends it
-pub record IsSplitAt (d : ℕ) (octets before after : List ℕ) : Type 0 where
-  pub is_before : caa_part_before d octets ≡ before
-  pub is_after : caa_part_after d octets ≡ Some after
-  pub parts : parts_between d octets ≡ before ∷ parts_between d after
-  pub fewer : length after < length octets
-
--- no octet ends a part
-pub record IsUnsplit (d : ℕ) (octets : List ℕ) : Type 0 where
-  pub is_before : caa_part_before d octets ≡ octets
-  pub is_after : caa_part_after d octets ≡ None
-  pub parts : parts_between d octets ≡ octets ∷ []
+use Rattle.std.specs.List.{list_all, position_or_len}
+use Rattle.std.specs.Option.{option_map_or}
+use Rattle.mail_texts.specs.Parts.{is_pair, octets_after, octets_before, parts_between, passes_beyond}
 
 -- ---- words
 
@@ -97,7 +70,7 @@ is_parameter_tag octets = option_map_or is_caa_label (padded_word octets) false
 
 -- *WSP parameter *WSP, where parameter = tag *WSP "=" *WSP value
 abbrev pub is_parameter : List ℕ → Bool
-is_parameter part = is_parameter_tag (caa_part_before 61 part) && option_map_or is_parameter_value (caa_part_after 61 part) false
+is_parameter part = is_pair 61 is_parameter_tag is_parameter_value part
 
 abbrev pub is_no_part : List (List ℕ) → Bool
 is_no_part [] = true
@@ -110,13 +83,9 @@ are_parameters (part ∷ parts) = (is_parameter part || (is_no_part parts && lis
 
 -- issue-value = *WSP [issuer-domain-name *WSP] [";" *WSP [parameters *WSP]]
 abbrev pub is_issue_value : List ℕ → Bool
-is_issue_value octets = is_issuer (caa_part_before 59 octets) && option_map_or (λ after. are_parameters (parts_between 59 after)) (caa_part_after 59 octets) true
+is_issue_value octets = is_issuer (octets_before 59 octets) && option_map_or (λ after. are_parameters (parts_between 59 after)) (octets_after 59 octets) true
 
 -- ---- URLs of iodef
-
--- the octets after a text, in any letter case, with which octets begin
-abbrev pub beyond_prefix : List ℕ → List ℕ → Option (List ℕ)
-beyond_prefix prefix octets = if same_lowered (take (length prefix) octets) prefix then Some (drop (length prefix) octets) else None
 
 abbrev pub is_some_text : List ℕ → Bool
 is_some_text [] = false
@@ -124,15 +93,12 @@ is_some_text (o ∷ octets) = true
 
 -- some text, an at sign, and some text
 abbrev pub is_mailbox : List ℕ → Bool
-is_mailbox octets = is_some_text (caa_part_before 64 octets) && option_map_or is_some_text (caa_part_after 64 octets) false
+is_mailbox octets = is_pair 64 is_some_text is_some_text octets
 
 -- a URL of the scheme mailto (RFC 6068)
 abbrev pub is_mail_url : List ℕ → Bool
-is_mail_url octets = option_map_or is_mailbox (beyond_prefix (codes "mailto:") octets) false
-
-abbrev pub has_text_beyond : List ℕ → List ℕ → Bool
-has_text_beyond prefix octets = option_map_or is_some_text (beyond_prefix prefix octets) false
+is_mail_url octets = passes_beyond (codes "mailto:") is_mailbox octets
 
 -- a URL of a scheme that reports may have: mailto, http or https
 abbrev pub is_report_url : List ℕ → Bool
-is_report_url octets = is_mail_url octets || (has_text_beyond (codes "http://") octets || has_text_beyond (codes "https://") octets)
+is_report_url octets = is_mail_url octets || (passes_beyond (codes "http://") is_some_text octets || passes_beyond (codes "https://") is_some_text octets)

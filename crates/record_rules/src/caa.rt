@@ -3,8 +3,9 @@ ghost use Rattle.std.specs.Prelude.{◌≡◌};
 ghost use Rattle.record_rules.specs.LoneRules.{caa_tag, caa_value, has_bad_issuer, has_bad_report, has_bad_value, has_unknown_flags, is_issue_tag, has_capital, has_capital_tag, has_critical_tag, has_unknown_tag, is_critical, is_known_tag};
 
 use crate::caa_values::{is_issue_value, is_report_url};
-use crate::labels::{after_count, after_string, first_string};
+use crate::labels::{after_string, first_string};
 use dns_octets::lowered::same_octets;
+use mail_texts::parts::after_count;
 
 /// Returns the tag of a CAA.
 fn tag(data: &[u8]) -> &[u8]

@@ -1,34 +1,11 @@
 //! Checks the values of CAA (RFC 8659 sections 4.2 to 4.4, RFC 9495).
-ghost use Rattle.std.specs.Prelude.{◌≡◌, ◌<◌, ◌-◌, ◌==◌, IfSome, MatchOption, length, take};
+ghost use Rattle.std.specs.Prelude.{◌≡◌, ◌-◌, length};
 ghost use Rattle.std.specs.List.{list_all, position, position_or_len};
 ghost use Rattle.std.specs.Option.{option_copied};
-ghost use Rattle.record_rules.specs.CaaValues.{are_parameters, beyond_prefix, beyond_wsp, has_text_beyond, is_alphanumeric_at, is_caa_label, is_issue_value, is_issuer, is_issuer_name, is_issuer_word, is_mail_url, is_mailbox, is_parameter, is_parameter_tag, is_parameter_value, is_report_url, is_some_text, is_tag_octet, is_not_wsp, is_value_octet, is_wsp, padded_word, parts_between, IsSplitAt, IsUnsplit};
+ghost use Rattle.mail_texts.specs.Parts.{parts_between, passes_beyond};
+ghost use Rattle.record_rules.specs.CaaValues.{are_parameters, beyond_wsp, is_alphanumeric_at, is_caa_label, is_issue_value, is_issuer, is_issuer_name, is_issuer_word, is_mail_url, is_mailbox, is_parameter, is_parameter_tag, is_parameter_value, is_report_url, is_some_text, is_tag_octet, is_not_wsp, is_value_octet, is_wsp, padded_word};
 
-use crate::labels::after_count;
-use dns_octets::lowered::same_octets;
-
-/// Returns the offset of the first of an octet.
-fn offset_of(wanted: u8, octets: &[u8]) -> Option<usize>
-    ensures first { result ≡ position (λ o. o == wanted) octets.now }
-    ensures within { IfSome result (λ i. i < length octets.now) }
-{
-    octets.iter().position(|octet| *octet == wanted)
-}
-
-/// Splits octets at the first of an octet.
-fn split_octet(wanted: u8, octets: &[u8]) -> Option<(&[u8], &[u8])>
-    ensures { MatchOption result
-        (IsUnsplit wanted octets.now)
-        (λ p. IsSplitAt wanted octets.now p.0.now p.1.now) }
-{
-    match offset_of(wanted, octets) {
-        Some(offset) => Some((
-            first_octets(octets, offset),
-            after_count(octets, offset + 1),
-        )),
-        None => None,
-    }
-}
+use mail_texts::parts::{after_count, after_prefix, first_octets, split_octet};
 
 /// Returns whether an octet is a space or a tab.
 fn is_wsp(octet: u8) -> bool
@@ -59,7 +36,7 @@ fn wsp_offset(octets: &[u8]) -> Option<usize>
 }
 
 /// Returns the number of spaces and tabs with which octets begin.
-#[tactic(auto, using(crate::proofs::CaaParts::place_is, crate::proofs::CaaParts::place_is_end))]
+#[tactic(auto, using(mail_texts::proofs::Splits::place_is, mail_texts::proofs::Splits::place_is_end))]
 fn wsp_length(octets: &[u8]) -> usize
     ensures { result ≡ position_or_len is_not_wsp octets.now }
 {
@@ -70,7 +47,7 @@ fn wsp_length(octets: &[u8]) -> usize
 }
 
 /// Returns the number of octets before the first space or tab.
-#[tactic(auto, using(crate::proofs::CaaParts::place_is, crate::proofs::CaaParts::place_is_end))]
+#[tactic(auto, using(mail_texts::proofs::Splits::place_is, mail_texts::proofs::Splits::place_is_end))]
 fn word_length(octets: &[u8]) -> usize
     ensures { result ≡ position_or_len is_wsp octets.now }
 {
@@ -85,16 +62,6 @@ fn after_wsp(octets: &[u8]) -> &[u8]
     ensures { result.now ≡ beyond_wsp octets.now }
 {
     after_count(octets, wsp_length(octets))
-}
-
-/// Returns the octets before an offset, or all if there are fewer.
-fn first_octets(octets: &[u8], count: usize) -> &[u8]
-    ensures { result.now ≡ take count octets.now }
-{
-    match octets.get(..count) {
-        Some(first) => first,
-        None => octets,
-    }
 }
 
 /// Returns the word in octets that have no other octets than spaces and tabs before and after it. It
@@ -153,7 +120,7 @@ fn is_caa_label(label: &[u8]) -> bool
 }
 
 /// Returns whether a word is a domain name: labels with dots between them.
-#[tactic(auto, using(crate::proofs::CaaParts::all_step, crate::proofs::CaaParts::all_last))]
+#[tactic(auto, using(mail_texts::proofs::Splits::all_step, mail_texts::proofs::Splits::all_last))]
 fn is_issuer_name(word: &[u8]) -> bool
     ensures { result ≡ is_issuer_name word.now }
 {
@@ -219,7 +186,7 @@ fn is_parameter_tag(octets: &[u8]) -> bool
 }
 
 /// Returns whether octets are a parameter, with spaces and tabs around it.
-#[tactic(auto, using(crate::proofs::CaaParts::parameter_split, crate::proofs::CaaParts::parameter_unsplit))]
+#[tactic(auto, using(mail_texts::proofs::Splits::pair_split, mail_texts::proofs::Splits::pair_unsplit))]
 fn is_parameter(part: &[u8]) -> bool
     ensures { result ≡ is_parameter part.now }
 {
@@ -256,17 +223,6 @@ pub(crate) fn is_issue_value(octets: &[u8]) -> bool
     }
 }
 
-/// Returns the octets after a text, in any letter case, with which octets begin.
-fn after_prefix<'o>(prefix: &[u8], octets: &'o [u8]) -> Option<&'o [u8]>
-    ensures { option_copied result ≡ beyond_prefix prefix.now octets.now }
-{
-    if same_octets(first_octets(octets, prefix.len()), prefix) {
-        Some(after_count(octets, prefix.len()))
-    } else {
-        None
-    }
-}
-
 /// Returns whether octets are not empty.
 fn is_some_text(octets: &[u8]) -> bool
     ensures { result ≡ is_some_text octets.now }
@@ -275,7 +231,7 @@ fn is_some_text(octets: &[u8]) -> bool
 }
 
 /// Returns whether octets have an at sign, and text before and after it.
-#[tactic(auto, using(crate::proofs::CaaParts::mailbox_split, crate::proofs::CaaParts::mailbox_unsplit))]
+#[tactic(auto, using(mail_texts::proofs::Splits::pair_split, mail_texts::proofs::Splits::pair_unsplit))]
 fn is_mailbox(octets: &[u8]) -> bool
     ensures { result ≡ is_mailbox octets.now }
 {
@@ -287,7 +243,7 @@ fn is_mailbox(octets: &[u8]) -> bool
 
 /// Returns whether octets are a text in any letter case, and then more.
 fn has_text_beyond(prefix: &[u8], octets: &[u8]) -> bool
-    ensures { result ≡ has_text_beyond prefix.now octets.now }
+    ensures { result ≡ passes_beyond prefix.now is_some_text octets.now }
 {
     match after_prefix(prefix, octets) {
         Some(rest) => is_some_text(rest),

@@ -7,16 +7,7 @@ ghost use Rattle.record_rules.specs.LoneRules.{is_nil_list};
 ghost use Rattle.record_rules.specs.Labels.{begins_underscore, beyond_name, beyond_passing, beyond_string, ends_in_name, has_at_sign, has_slash_or_hyphen, is_asterisk, is_divided_below, is_nibble_label, is_octet_label, last_two, leading_string, name_labels, passes_test, HasFirstLabel, IsRootBefore};
 
 use dns_octets::lowered::same_octets;
-
-/// Returns the octets after as many octets, or none if there are fewer.
-pub(crate) fn after_count(octets: &[u8], count: usize) -> &[u8]
-    ensures { result.now ≡ drop count octets.now }
-{
-    match octets.get(count..) {
-        Some(rest) => rest,
-        None => &[],
-    }
-}
+use mail_texts::parts::after_count;
 
 /// Returns the octets of a character string that octets begin with, as far as there are octets.
 pub(crate) fn first_string(octets: &[u8]) -> &[u8]

@@ -4,9 +4,10 @@ ghost use Rattle.record_rules.specs.Labels.{ends_in_name, is_nibble_label, is_oc
 ghost use Rattle.record_rules.specs.LoneRules.{has_address_target, has_inner_asterisk, in_addr_top, ip6_top, is_address_name, is_address_target, is_bad_in_tree, is_bad_reverse, is_below_reverse, is_free_in_tree, is_origin_of, lacks_final_dot, target_offset};
 
 use crate::labels::{
-    LabelTest, after_count, after_nibbles, after_passing, any_label, first_label, is_asterisk,
-    is_divided_below, is_root, is_same, is_within, last_two, parent,
+    LabelTest, after_nibbles, after_passing, any_label, first_label, is_asterisk, is_divided_below,
+    is_root, is_same, is_within, last_two, parent,
 };
+use mail_texts::parts::after_count;
 use rdata_values::RecordType;
 
 /// The top of the tree of IPv4 addresses (RFC 1035 section 3.5).

@@ -2,8 +2,9 @@
 ghost use Rattle.std.specs.Prelude.{◌≡◌};
 ghost use Rattle.record_rules.specs.LoneRules.{after_services, has_bad_expression, has_two_results};
 
-use crate::labels::{after_count, after_string, first_string, is_root};
+use crate::labels::{after_string, first_string, is_root};
 use crate::regexp::is_substitution;
+use mail_texts::parts::after_count;
 
 /// Returns the octets after the services of a NAPTR.
 fn after_services(data: &[u8]) -> &[u8]

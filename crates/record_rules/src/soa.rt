@@ -3,10 +3,9 @@ ghost use Rattle.std.specs.Prelude.{◌≡◌};
 ghost use Rattle.record_rules.specs.Labels.{name_labels};
 ghost use Rattle.record_rules.specs.LoneRules.{has_early_expire, has_late_retry, has_long_minimum, has_mail_sign, is_one_mail_label, leading_number, soa_mail, soa_number};
 
-use crate::labels::{
-    LabelTest, after_count, after_name, any_label, first_label, has_at_sign, is_root,
-};
+use crate::labels::{LabelTest, after_name, any_label, first_label, has_at_sign, is_root};
 use dns_octets::lowered::same_octets;
+use mail_texts::parts::after_count;
 
 /// Offsets of the numbers after the names, in octets.
 const REFRESH: usize = 4;

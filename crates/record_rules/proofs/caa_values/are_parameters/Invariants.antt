@@ -1,5 +1,6 @@
 use Rattle.std.proofs.Common.{◌≡◌, length}
-use Rattle.record_rules.specs.CaaValues.{are_parameters, parts_between}
+use Rattle.mail_texts.specs.Parts.{parts_between}
+use Rattle.record_rules.specs.CaaValues.{are_parameters}
 use Rattle.record_rules.proofs.caa_values.are_parameters.Given as goal
 
 abbrev pub invariant-loop-part : goal.invariant-loop-part

@@ -1,7 +1,7 @@
 use Rattle.std.proofs.Common.{◌+◌, take, drop, sym, subst, ◌∙◌}
-use Rattle.record_rules.specs.CaaValues.{IsSplitAt}
-use Rattle.record_rules.proofs.CaaParts.{split_is, unsplit_is}
-use Rattle.record_rules.proofs.caa_values.split_octet.Goals as goal
+use Rattle.mail_texts.specs.Parts.{IsSplitAt}
+use Rattle.mail_texts.proofs.Splits.{split_is, unsplit_is}
+use Rattle.mail_texts.proofs.parts.split_octet.Goals as goal
 
 pub returns-in-Some : goal.returns-in-Some
 returns-in-Some c =

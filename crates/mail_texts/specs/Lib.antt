@@ -1,0 +1,4 @@
+pub mod Macros
+pub mod Parts
+pub mod Rows
+pub mod SpfTerms
