@@ -298,6 +298,8 @@ pub enum Code {
     TlsaField,
     /// The value of a CAA has not the form that its tag asks for, or its flags are unknown.
     CaaValue,
+    /// An SPF record has a malformed term.
+    Spf,
     /// The exchange of an MX is the root, and its owner has another MX.
     NullMx,
     /// The serial of a ZONEMD is not that of the SOA.

@@ -128,7 +128,7 @@ macro_rules! way {
     };
 }
 
-static TABLE: [Row; 117] = [
+static TABLE: [Row; 118] = [
     row!(OpenQuote => "open-quote", Error, Text, TEXT_FAULT, WHOLE, ""),
     row!(OpenParenthesis => "open-parenthesis", Error, Text, TEXT_FAULT, WHOLE, ""),
     row!(ClosingParenthesis => "closing-parenthesis", Error, Text, TEXT_FAULT, WHOLE, ""),
@@ -240,6 +240,7 @@ static TABLE: [Row; 117] = [
     row!(PtrDot => "ptr-dot", Warning, Records, NONE, TARGET, "target is in a reverse tree: write the host name with a final dot"),
     row!(TlsaField => "tlsa-field", Warning, Records, NONE, FIELD_0, "certificate usage is not assigned (0 to 3, 255)"),
     row!(CaaValue => "caa-value", Warning, Records, NONE, FIELD_2, "not a domain name with parameters, as ca.example; policy=ev"),
+    row!(Spf => "spf", Warning, Records, NONE, FIELD_0, "malformed term in an SPF record, which makes all of it an error"),
     row!(NullMx => "null-mx", Warning, Zone, NONE, TARGET, "null MX beside another MX"),
     row!(ZonemdSerial => "zonemd-serial", Warning, Zone, NONE, WHOLE, "serial of the ZONEMD is not that of the SOA"),
     row!(TlsaHost => "tlsa-host", Warning, Zone, ABSENCE, WHOLE, "host of the TLSA has no address in the zone"),

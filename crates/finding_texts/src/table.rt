@@ -122,6 +122,7 @@ pub fn summary_of(code: Code) -> &'static str {
             "The usage, selector or matching type of a TLSA or SMIMEA is not assigned",
         Code::CaaValue =>
             "The value of a CAA is not of the form of its tag, or its flags are unknown",
+        Code::Spf => "An SPF record has a term that is neither a mechanism nor a modifier",
         Code::NullMx => "The exchange of an MX is the root, and its owner has another MX",
         Code::ZonemdSerial => "The serial of a ZONEMD is not that of the SOA",
         Code::TlsaHost => "The host of a TLSA has no address in the zone",
@@ -345,6 +346,8 @@ pub fn text_of(code: Code) -> &'static str {
             "A client doesn't use the record. Usages are 0 to 3, selectors 0 and 1, matching types 0 to 2; 255 is for private use (RFC 6698 sections 7.2 to 7.4, RFC 8162 section 2).",
         Code::CaaValue =>
             "A certification authority that can't parse issue or issuewild issues no certificate. Their value is a domain name or nothing, and after a semicolon parameters NAME=VALUE with semicolons between them (RFC 8659 sections 4.2 and 4.3). So is that of issuemail (RFC 9495) and issuevmc. The value of iodef is a URL of mailto, http or https (RFC 8659 section 4.4). The flags are 0, or 128 for a tag that must be understood (section 4.1).",
+        Code::Spf =>
+            "A receiver that finds a malformed term treats the whole record as an error, and mail may be rejected (RFC 7208 section 4.6). Mechanisms are all, include, a, mx, ptr, ip4, ip6 and exists, with a colon before their domain or address. Modifiers are NAME=VALUE, as redirect=DOMAIN. Domains have a dot, or end with a macro. The text of a record of several strings is not looked at.",
         Code::NullMx =>
             "An MX whose exchange is the root says that the name receives no mail (RFC 7505 section 3). Such a name must have no other MX: senders may reject its mail, or use the other one. Remove one of them.",
         Code::ZonemdSerial =>
@@ -498,6 +501,7 @@ pub fn example_of(code: Code) -> &'static str {
         Code::TlsaField =>
             "_25._tcp.ns TLSA 4 1 1 0000000000000000000000000000000000000000000000000000000000000000",
         Code::CaaValue => "@ CAA 0 issue \"ca_example\"",
+        Code::Spf => "a TXT \"v=spf1 ip4:192.0.2.300 -all\"",
         Code::NullMx => "a MX 0 .\na MX 10 ns",
         Code::ZonemdSerial => "@ ZONEMD 2 1 240 000000000000000000000000",
         Code::TlsaHost =>
