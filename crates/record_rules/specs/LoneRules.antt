@@ -7,11 +7,12 @@ use Rattle.std.specs.Option.{option_map_or}
 use Rattle.dns_octets.specs.Lowered.{same_lowered}
 use Rattle.dns_wire.specs.Order.{same_name}
 use Rattle.finding_codes.specs.declared.code.Code.{Code}
-use Rattle.finding_codes.specs.declared.code.Code.TheVariants.{SpfType, NaptrRegexp, NaptrBoth, CaaTag, SoaMail, SoaTimers, ReverseName, WildcardInside, TargetAddress, TxtWords, CommentInData, PtrDot, TlsaField, CaaValue}
+use Rattle.finding_codes.specs.declared.code.Code.TheVariants.{SpfType, NaptrRegexp, NaptrBoth, CaaTag, SoaMail, SoaTimers, ReverseName, WildcardInside, TargetAddress, TxtWords, CommentInData, PtrDot, TlsaField, CaaValue, Spf}
 use Rattle.finding_codes.specs.declared.rule.Rule.{Rule}
 use Rattle.rdata_values.specs.Rtype as Rtype
 use Rattle.rdata_values.specs.declared.types.RecordType.{RecordType}
 use Rattle.rdata_fields.specs.declared.record_ref.RecordRef.{RecordRef}
+use Rattle.mail_texts.specs.SpfTerms.{has_bad_spf_term}
 use Rattle.record_rules.specs.CaaValues.{is_issue_value, is_report_url}
 use Rattle.record_rules.specs.Comments.{has_word_at_comment}
 use Rattle.record_rules.specs.Labels.{begins_underscore, beyond_name, beyond_string, ends_in_name, has_at_sign, is_asterisk, is_divided_below, is_nibble_label, is_octet_label, beyond_passing, name_labels, leading_string}
@@ -229,6 +230,15 @@ begins_version octets = false
 abbrev pub has_version_words : List ℕ → Bool
 has_version_words octets = begins_version (leading_string octets) && not (is_nil_list (beyond_string octets))
 
+-- the first string begins with "v=s", as all SPF records do
+abbrev pub begins_spf : List ℕ → Bool
+begins_spf (count ∷ v ∷ equals ∷ s ∷ octets) = (v == 118 || v == 86) && (equals == 61 && (s == 115 || s == 83))
+begins_spf octets = false
+
+-- one string, which is an SPF record with a malformed term
+abbrev pub has_bad_spf : List ℕ → Bool
+has_bad_spf octets = is_nil_list (beyond_string octets) && has_bad_spf_term (leading_string octets)
+
 -- TXT, SPF and CAA, whose strings often have semicolons
 abbrev pub is_text_type : RecordType → Bool
 is_text_type rtype = rtype == Rtype.txt || (rtype == Rtype.spf || rtype == Rtype.caa)
@@ -261,6 +271,7 @@ breaks_alone CommentInData way owner rtype octets text = is_text_type rtype && o
 breaks_alone PtrDot way owner rtype octets text = rtype == Rtype.ptr && lacks_final_dot (name_labels owner) (name_labels octets)
 breaks_alone TlsaField way owner rtype octets text = is_association_type rtype && has_bad_association way octets
 breaks_alone CaaValue way owner rtype octets text = rtype == Rtype.caa && (has_bad_value way octets && not (option_map_or (λ w. has_word_at_comment w.last.now) text false))
+breaks_alone Spf way owner rtype octets text = rtype == Rtype.txt && (begins_spf octets && has_bad_spf octets)
 breaks_alone _ way owner rtype octets text = false
 
 -- the same, of a record whose octets are borrowed

@@ -13,7 +13,7 @@ use Rattle.record_rules.specs.Substitutions.{group_count, is_substitution}
 use Rattle.record_rules.specs.declared.regexp.Spot.TheVariants.{Plain}
 use Rattle.finding_codes.specs.Rule.{coded_rule}
 use Rattle.finding_codes.specs.declared.code.Code.{Code}
-use Rattle.finding_codes.specs.declared.code.Code.TheVariants.{SpfType, NaptrRegexp, NaptrBoth, CaaTag, SoaMail, SoaTimers, ReverseName, WildcardInside, TargetAddress, TxtWords, CommentInData, PtrDot, TlsaField, CaaValue}
+use Rattle.finding_codes.specs.declared.code.Code.TheVariants.{SpfType, NaptrRegexp, NaptrBoth, CaaTag, SoaMail, SoaTimers, ReverseName, WildcardInside, TargetAddress, TxtWords, CommentInData, PtrDot, TlsaField, CaaValue, Spf}
 use Rattle.finding_codes.specs.declared.rule.Rule.{Rule}
 use Rattle.record_rules.specs.declared.written.Written.{Written}
 
@@ -758,3 +758,12 @@ spf_found_row = refl
 soa_found_row : found_alone (borrowed (wire apex) Rtype.soa (soa (codes "admin" ∷ [] ∷ []) bad_timers)) None ≡ coded_rule SoaMail 1 ∷ coded_rule SoaTimers 0 ∷ coded_rule SoaTimers 1 ∷ coded_rule SoaTimers 2 ∷ []
 unfolding beyond_name name_labels
 soa_found_row = refl
+
+spf_term_row : broken (coded_rule Spf 0) Rtype.txt (text (codes "v=spf1 ip4:192.0.2.300 -all")) ≡ true
+spf_term_row = refl
+
+spf_right_row : broken (coded_rule Spf 0) Rtype.txt (text (codes "v=spf1 mx -all")) ≡ false
+spf_right_row = refl
+
+spf_two_strings_row : broken (coded_rule Spf 0) Rtype.txt (text (codes "v=spf1 ip4:192.0.2.1 inclu") ++ text (codes "de:b.net -all")) ≡ false
+spf_two_strings_row = refl

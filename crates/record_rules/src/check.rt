@@ -4,7 +4,7 @@ ghost use Rattle.arrayvec.specs.ArrayVec.{array_vec_len};
 ghost use Rattle.std.specs.Option.{option_map_or};
 ghost use Rattle.record_rules.specs.Comments.{has_word_at_comment};
 ghost use Rattle.record_rules.specs.FoundAlone.{found_alone, ListsRulesOf};
-ghost use Rattle.record_rules.specs.LoneRules.{begins_version, breaks_record_rule, has_bad_mail, has_bad_tag, has_bad_timer, has_version_words, is_association_type, is_text_type};
+ghost use Rattle.record_rules.specs.LoneRules.{begins_spf, begins_version, breaks_record_rule, has_bad_mail, has_bad_spf, has_bad_tag, has_bad_timer, has_version_words, is_association_type, is_text_type};
 
 use crate::caa::{has_bad_value, has_capital_tag, has_critical_tag, has_unknown_tag};
 use crate::comments::has_word_at_comment;
@@ -20,11 +20,12 @@ use arrayvec::ArrayVec;
 use finding_codes::code::Code;
 use finding_codes::rule;
 use finding_codes::rule::Rule;
+use mail_texts::has_bad_spf_term;
 use rdata_fields::RecordRef;
 use rdata_values::RecordType;
 
 /// All rules, in the order in which they are checked.
-pub static LONE_RULES: [Rule; 23] = [
+pub static LONE_RULES: [Rule; 24] = [
     rule!(SpfType, 0),
     rule!(NaptrRegexp, 0),
     rule!(NaptrBoth, 0),
@@ -48,6 +49,7 @@ pub static LONE_RULES: [Rule; 23] = [
     rule!(CaaValue, 0),
     rule!(CaaValue, 1),
     rule!(CaaValue, 2),
+    rule!(Spf, 0),
 ];
 
 /// Those for a record of any type.
@@ -62,10 +64,11 @@ static RULES_OF_PTR: [Rule; 4] = [
 ];
 
 /// Those for a TXT.
-static RULES_OF_TXT: [Rule; 3] = [
+static RULES_OF_TXT: [Rule; 4] = [
     rule!(WildcardInside, 0),
     rule!(TxtWords, 0),
     rule!(CommentInData, 0),
+    rule!(Spf, 0),
 ];
 
 /// Those for an SPF.
@@ -144,6 +147,26 @@ fn has_version_words(data: &[u8]) -> bool
     ensures { result ≡ has_version_words «data».now }
 {
     begins_version(first_string(data)) && !after_string(data).is_empty()
+}
+
+/// Returns whether a first string begins with `v=s`, in any letter case.
+fn begins_spf(data: &[u8]) -> bool
+    ensures { result ≡ begins_spf «data».now }
+{
+    match data {
+        [_, v, equals, s, ..] => {
+            (*v == b'v' || *v == b'V') && *equals == b'=' && (*s == b's' || *s == b'S')
+        }
+        _ => false,
+    }
+}
+
+/// Returns whether a TXT has one string, which is an SPF record with a malformed term.
+#[inline(never)]
+fn has_bad_spf(data: &[u8]) -> bool
+    ensures { result ≡ has_bad_spf «data».now }
+{
+    after_string(data).is_empty() && has_bad_spf_term(first_string(data))
 }
 
 /// Returns whether RDATA is known to be written without quotes.
@@ -243,6 +266,9 @@ pub fn breaks_rule(rule: Rule, record: &RecordRef<'_>, written: Option<Written<'
             rtype == RecordType::CAA
                 && has_bad_value(rule.way, record.data)
                 && !ends_at_comment(written)
+        }
+        Code::Spf => {
+            rtype == RecordType::TXT && begins_spf(record.data) && has_bad_spf(record.data)
         }
         _ => false,
     }
