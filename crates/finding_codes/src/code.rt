@@ -270,6 +270,24 @@ pub enum Code {
     /// has an exponent, and a modulus of 64 to 512 octets, with algorithm 10 of 128 or more (RFC 3110
     /// section 2, RFC 5702 section 2, RFC 6605 section 4, RFC 8080 section 3).
     KeyLength,
+    /// The record is an NSEC3 of a chain that an NSEC3PARAM at the apex names, of at most 150
+    /// iterations, and its owner is the hash of no name of the zone (RFC 5155 section 7.1).
+    Nsec3Extra,
+    /// The record is the first of an RRset that lacks a signature of an algorithm that signs other
+    /// RRsets, or the first DNSKEY of an algorithm that signs no RRset but the DNSKEYs (RFC 4035
+    /// section 2.2).
+    RrsigAlgorithm,
+    /// The record is the only NSEC3 of its chain, of three or more, with or without Opt-Out (RFC 5155
+    /// section 6).
+    OptOut,
+    /// The record is the first CDS of the apex, and none is of a DNSKEY there, or the first CDNSKEY,
+    /// and none equals a DNSKEY (RFC 7344 section 4.1).
+    CdsKey,
+    /// The record is the first CDS of the apex, and the CDS and CDNSKEY records there are not of the
+    /// same keys (RFC 7344 section 4).
+    CdsDiffers,
+    /// The record is the SOA of a zone that has signatures elsewhere, and none at its apex.
+    UnsignedApex,
     /// A record has the type SPF, which no receiver looks up.
     SpfType,
     /// The regexp of a NAPTR is not a substitution expression.
@@ -300,6 +318,8 @@ pub enum Code {
     CaaValue,
     /// An SPF record has a malformed term.
     Spf,
+    /// A word that some name servers reject.
+    Unportable,
     /// The exchange of an MX is the root, and its owner has another MX.
     NullMx,
     /// The serial of a ZONEMD is not that of the SOA.
@@ -308,6 +328,8 @@ pub enum Code {
     TlsaHost,
     /// An SVCB or HTTPS in AliasMode has parameters, or is not alone.
     SvcbAlias,
+    /// The record is a KEY at a CNAME.
+    KeyBesideCname,
     /// An exception in a comment is malformed, or names an unknown code.
     Exception,
     /// An exception excepts no finding.

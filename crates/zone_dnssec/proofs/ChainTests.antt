@@ -12,12 +12,14 @@ use Rattle.rdata_values.specs.Rtype as Rtype
 use Rattle.zone_record.specs.declared.record.Record.{Record}
 use Rattle.zone_rules.specs.Zones.{as_listed, record_before, type_of}
 use Rattle.zone_rules.proofs.Searches.{none_passes}
-use Rattle.zone_dnssec.specs.ChainFaults.{chain_faults, either_faults, fails_beside, fails_first, faults_among, faults_of_chains, faults_with, misorders, names_failing_chain, AddsChain, AreFaults, AreFaultsBefore, AreNoFaults, IsAtApex}
-use Rattle.zone_dnssec.specs.HashedLinks.{chain_fails, fails_chain, is_out_of_order, names_other_hash, points_to_next}
-use Rattle.zone_dnssec.specs.Nsec3Chain.{is_same_field}
+use Rattle.zone_dnssec.specs.ChainFaults.{chain_faults, either_faults, fails_beside, fails_first, faults_among, faults_of_chains, faults_with, is_lone_flag_in, is_unmatched_in, late_faults, link_faults, misorders, names_failing_chain, AddsChain, AddsFaults, AreFaults, AreFaultsBefore, AreNoFaults, IsAtApex}
+use Rattle.zone_dnssec.specs.HashedLinks.{chain_fails, fails_chain, is_bounded, names_other_hash, points_to_next}
+use Rattle.zone_dnssec.specs.Nsec3Chain.{is_link, is_same_field, opts_out}
 use Rattle.zone_dnssec.specs.NsecChain.{are_at_one_name}
+use Rattle.zone_dnssec.specs.OptOutFlags.{has_own_flag, is_flag_lone}
 use Rattle.zone_dnssec.specs.Parameters.{names_chain}
 use Rattle.zone_dnssec.specs.SignedSets.{starts}
+use Rattle.zone_dnssec.specs.UnmatchedLinks.{matches_no_name, shows_hashed}
 use Rattle.zone_dnssec.specs.ZoneViews.{ZoneView}
 use Rattle.zone_dnssec.specs.declared.hashed.LinkFault.{LinkFault}
 use Rattle.zone_dnssec.specs.declared.hashed.LinkFault.TheVariants.{Missing, DifferentTypes}
@@ -58,6 +60,12 @@ first_listed R S DifferentTypes zone place x = refl
 misorders_listed : {N O : Type 0} (R S : Type 0) (zone : ZoneView N O) (place : ℕ) (x : Record N O) → misorders {M = R} {P = S} zone place (as_listed x) ≡ misorders zone place x
 misorders_listed R S zone place x = refl
 
+unmatched_listed : {N O : Type 0} (R S : Type 0) (zone : ZoneView N O) (place : ℕ) (x : Record N O) → is_unmatched_in {M = R} {P = S} zone place (as_listed x) ≡ is_unmatched_in zone place x
+unmatched_listed R S zone place x = refl
+
+flag_listed : {N O : Type 0} (R S : Type 0) (zone : ZoneView N O) (place : ℕ) (x : Record N O) → is_lone_flag_in {M = R} {P = S} zone place (as_listed x) ≡ is_lone_flag_in zone place x
+flag_listed R S zone place x = refl
+
 -- ---- tests among the first records
 
 module _ {X : Type 0} (test : X → Bool) where
@@ -73,34 +81,52 @@ module _ {X : Type 0} (test : X → Bool) where
 
 -- ---- lists of faults
 
-pub nothing_pushed : (n : ℕ) (old new : List ChainFaults) (x : ChainFaults) → AreNoFaults n old → x ≡ faults_with false false false → new ≡ old ++ x ∷ [] → AreNoFaults (n + 1) new
+pub nothing_pushed : (n : ℕ) (old new : List ChainFaults) (x : ChainFaults) → AreNoFaults n old → x ≡ faults_with false false false false false → new ≡ old ++ x ∷ [] → AreNoFaults (n + 1) new
 nothing_pushed n old new x h is e = record {
   size = omega (arith, ap length e, length-append old (x ∷ []), h.size);
   each = λ i d lt. by i d lt (cases_lt i n);
 }
   where
-    by : (i : ℕ) (d : ChainFaults) → i < n + 1 → (i < n) ⊎ (n ≤ i) → get_or new i d ≡ faults_with false false false
+    by : (i : ℕ) (d : ChainFaults) → i < n + 1 → (i < n) ⊎ (n ≤ i) → get_or new i d ≡ faults_with false false false false false
     by i d lt (inl less) = ap (λ l. get_or l i d) e ∙ get_or_append_left old (x ∷ []) d i (omega (arith, less, h.size)) ∙ h.each i d less
     by i d lt (inr more) =
         let same : i ≡ length old = omega (arith, lt, more, h.size) in
         (λ j. get_or (e j) (same j) d) ∙ get_or-append_seam old x [] d ∙ is
 
-module _ {N O : Type 0} (zone : ZoneView N O) where
-  pub chain_pushed : {M P : Type 0} (chain : Record M P) (others old new : List ChainFaults) (n : ℕ) (other here : ChainFaults) → AddsChain zone chain others n old → Some other ≡ slice_get others n
-      → here ≡ chain_faults zone chain n → new ≡ old ++ either_faults other here ∷ [] → AddsChain zone chain others (n + 1) new
-  chain_pushed chain others old new n other here h o f e = record {
+module _ (f : ℕ → ChainFaults) (others : List ChainFaults) where
+  pub faults_pushed : (old new : List ChainFaults) (n : ℕ) (other here : ChainFaults) → AddsFaults f others n old → Some other ≡ slice_get others n → here ≡ f n → new ≡ old ++ either_faults other here ∷ []
+      → AddsFaults f others (n + 1) new
+  faults_pushed old new n other here h o is e = record {
     size = omega (arith, ap length e, length-append old (either_faults other here ∷ []), h.size);
     each = λ i d lt. by i d lt (cases_lt i n);
   }
     where
-      by : (i : ℕ) (d : ChainFaults) → i < n + 1 → (i < n) ⊎ (n ≤ i) → get_or new i d ≡ either_faults (get_or others i d) (chain_faults zone chain i)
+      by : (i : ℕ) (d : ChainFaults) → i < n + 1 → (i < n) ⊎ (n ≤ i) → get_or new i d ≡ either_faults (get_or others i d) (f i)
       by i d lt (inl less) = ap (λ l. get_or l i d) e ∙ get_or_append_left old (either_faults other here ∷ []) d i (omega (arith, less, h.size)) ∙ h.each i d less
       by i d lt (inr more) =
           let same : i ≡ length old = omega (arith, lt, more, h.size) in
           let at : i ≡ n = omega (arith, lt, more) in
           (λ j. get_or (e j) (same j) d) ∙ get_or-append_seam old (either_faults other here) [] d
-          ∙ (λ j. either_faults (sym (ap (λ m. get_or others m d) at ∙ get_or_from_slice_get others n other d (sym o)) j) ((f ∙ ap (chain_faults zone chain) (sym at)) j))
+          ∙ (λ j. either_faults (sym (ap (λ m. get_or others m d) at ∙ get_or_from_slice_get others n other d (sym o)) j) ((is ∙ ap f (sym at)) j))
 
+-- ---- the faults of a chain, in two parts
+
+-- faults that are known at once, and later ones
+both_parts : (o : ChainFaults) (a b c d e : Bool) → either_faults (either_faults o (faults_with a b c false false)) (faults_with false false false d e) ≡ either_faults o (faults_with a b c d e)
+both_parts o a b c d e =
+    λ j. faults_with (or_false (o.is_missing || a) j) (or_false (o.has_other_types || b) j) (or_false (o.has_other_next || c) j) (or_false o.is_unmatched j || d) (or_false o.has_lone_flag j || e)
+
+pub parts_added : {N O M P : Type 0} (zone : ZoneView N O) (chain : Record M P) (others mid new : List ChainFaults) (n m : ℕ) → m ≡ n → AddsFaults (link_faults zone chain) others n mid
+    → AddsFaults (late_faults zone chain) mid m new → AddsChain zone chain others n new
+parts_added zone chain others mid new n m same h k = record {
+  size = k.size ∙ same;
+  each = λ i d lt.
+      k.each i d (omega (arith, lt, same))
+      ∙ ap (λ o. either_faults o (late_faults zone chain i)) (h.each i d lt)
+      ∙ both_parts (get_or others i d) (fails_first Missing zone i chain) (fails_first DifferentTypes zone i chain) (misorders zone i chain) (is_unmatched_in zone i chain) (is_lone_flag_in zone i chain);
+}
+
+module _ {N O : Type 0} (zone : ZoneView N O) where
   failing : (test : Record N O → Bool) (r : Record N O) → same_name r.owner zone.origin ≡ false → names_failing_chain test zone.origin r ≡ false
   failing test r h = ap (λ b. b && (names_chain r && test r)) h
 
@@ -109,7 +135,8 @@ module _ {N O : Type 0} (zone : ZoneView N O) where
       → AreFaultsBefore zone first faults
   before_apex first faults h none = record {
     size = none.size;
-    each = λ i d lt. none.each i d lt ∙ (λ j. faults_with (sym (nothing (fails_first Missing zone i)) j) (sym (nothing (fails_first DifferentTypes zone i)) j) (sym (nothing (misorders zone i)) j));
+    each = λ i d lt. none.each i d lt ∙ (λ j. faults_with (sym (nothing (fails_first Missing zone i)) j) (sym (nothing (fails_first DifferentTypes zone i)) j) (sym (nothing (misorders zone i)) j)
+        (sym (nothing (is_unmatched_in zone i)) j) (sym (nothing (is_lone_flag_in zone i)) j));
   }
     where
       nothing : (test : Record N O → Bool) → list_any (names_failing_chain test zone.origin) (take first zone.records) ≡ false
@@ -120,7 +147,8 @@ module _ {N O : Type 0} (zone : ZoneView N O) where
       → AreFaults zone zone.records faults
   after_apex past faults h f = record {
     size = f.size;
-    each = λ i d lt. f.each i d lt ∙ (λ j. faults_with (others (fails_first Missing zone i) j) (others (fails_first DifferentTypes zone i) j) (others (misorders zone i) j));
+    each = λ i d lt. f.each i d lt ∙ (λ j. faults_with (others (fails_first Missing zone i) j) (others (fails_first DifferentTypes zone i) j) (others (misorders zone i) j)
+        (others (is_unmatched_in zone i) j) (others (is_lone_flag_in zone i) j));
   }
     where
       others : (test : Record N O → Bool) → list_any (names_failing_chain test zone.origin) (take past zone.records) ≡ list_any (names_failing_chain test zone.origin) zone.records
@@ -143,7 +171,8 @@ module _ {N O : Type 0} (zone : ZoneView N O) where
         by None q k = cc
         by (Some x) q k = record {
           size = f.size;
-          each = λ i d less. f.each i d less ∙ (λ j. faults_with (sym (same (fails_first Missing zone i)) j) (sym (same (fails_first DifferentTypes zone i)) j) (sym (same (misorders zone i)) j));
+          each = λ i d less. f.each i d less ∙ (λ j. faults_with (sym (same (fails_first Missing zone i)) j) (sym (same (fails_first DifferentTypes zone i)) j) (sym (same (misorders zone i)) j)
+              (sym (same (is_unmatched_in zone i)) j) (sym (same (is_lone_flag_in zone i)) j));
         }
           where
             unnamed : names_chain x ≡ false
@@ -166,7 +195,8 @@ module _ {N O : Type 0} (zone : ZoneView N O) where
           each = λ i d less.
               a.each i d (omega (arith, less, f.size)) ∙ ap (λ o. either_faults o (chain_faults zone found i)) (f.each i d less)
               ∙ (λ j. faults_with (sym (added (fails_first Missing zone i) (fails_first Missing zone i found) (missing i)) j)
-              (sym (added (fails_first DifferentTypes zone i) (fails_first DifferentTypes zone i found) (types i)) j) (sym (added (misorders zone i) (misorders zone i found) (next i)) j));
+              (sym (added (fails_first DifferentTypes zone i) (fails_first DifferentTypes zone i found) (types i)) j) (sym (added (misorders zone i) (misorders zone i found) (next i)) j)
+              (sym (added (is_unmatched_in zone i) (is_unmatched_in zone i found) (unmatched i)) j) (sym (added (is_lone_flag_in zone i) (is_lone_flag_in zone i found) (flag i)) j));
         }
           where
             is : found ≡ as_listed x
@@ -183,6 +213,12 @@ module _ {N O : Type 0} (zone : ZoneView N O) where
 
             next : (i : ℕ) → misorders zone i found ≡ misorders zone i x
             next i = ap (misorders zone i) is ∙ misorders_listed R S zone i x
+
+            unmatched : (i : ℕ) → is_unmatched_in zone i found ≡ is_unmatched_in zone i x
+            unmatched i = ap (is_unmatched_in zone i) is ∙ unmatched_listed R S zone i x
+
+            flag : (i : ℕ) → is_lone_flag_in zone i found ≡ is_lone_flag_in zone i x
+            flag i = ap (is_lone_flag_in zone i) is ∙ flag_listed R S zone i x
 
             added : (test : Record N O → Bool) (here : Bool) → here ≡ test x
                 → list_any (names_failing_chain test zone.origin) (take (place + 1) zone.records) ≡ (list_any (names_failing_chain test zone.origin) (take place zone.records) || here)
@@ -235,6 +271,12 @@ chain_listed R S fault zone (Some b) r = refl
 other_listed : {N O : Type 0} (R S : Type 0) (zone : ZoneView N O) (r : Record N O) → names_other_hash {M = R} {P = S} zone (as_listed r) ≡ names_other_hash zone r
 other_listed R S zone r = refl
 
+no_name_listed : {N O : Type 0} (R S : Type 0) (zone : ZoneView N O) (r : Record N O) → matches_no_name {M = R} {P = S} zone (as_listed r) ≡ matches_no_name zone r
+no_name_listed R S zone r = refl
+
+own_flag_listed : {N O : Type 0} (R S : Type 0) (zone : ZoneView N O) (r : Record N O) → has_own_flag {M = R} {P = S} zone (as_listed r) ≡ has_own_flag zone r
+own_flag_listed R S zone r = refl
+
 module _ {N O R S : Type 0} (zone : ZoneView N O) (place : ℕ) (before : Option (Record R S)) (found : Record R S) (e : before ≡ option_map as_listed (record_before zone.records place))
     (f : Some found ≡ option_map as_listed (slice_get zone.records place)) where
   pub fails_is : (fault : LinkFault) → list_any (names_failing_chain (fails_first fault zone place) zone.origin) zone.records ≡ fails_chain fault zone before found
@@ -248,12 +290,26 @@ module _ {N O R S : Type 0} (zone : ZoneView N O) (place : ℕ) (before : Option
           ∙ any_also (λ x. same_name x.owner zone.origin) names_chain (chain_fails fault zone r.owner) (starts are_at_one_name (record_before zone.records place) r) zone.records
           ∙ sym ((λ i. fails_chain fault zone (e i) (some_is k i)) ∙ chain_listed R S fault zone (record_before zone.records place) r)
 
-  pub other_is : list_any (names_failing_chain (misorders zone place) zone.origin) zone.records ≡ names_other_hash zone found
-  other_is = by (slice_get zone.records place) refl f
+  -- a rule of NSEC3 records of some chain
+  link_is : (n : Record N O → Record N O → Bool) (whole : Bool)
+      → ((r : Record N O) → found ≡ as_listed r → whole ≡ (type_of r == Rtype.nsec3 && list_any (λ x. same_name x.owner zone.origin && (names_chain x && (is_link x r && n x r))) zone.records))
+      → list_any (names_failing_chain (λ x. option_map_or (λ y. is_link x y && n x y) (slice_get zone.records place) false) zone.origin) zone.records ≡ whole
+  link_is n whole h = by (slice_get zone.records place) refl f
     where
-      by : (o : Option (Record N O)) → slice_get zone.records place ≡ o → Some found ≡ option_map as_listed o → list_any (names_failing_chain (misorders zone place) zone.origin) zone.records ≡ names_other_hash zone found
+      by : (o : Option (Record N O)) → slice_get zone.records place ≡ o → Some found ≡ option_map as_listed o
+          → list_any (names_failing_chain (λ x. option_map_or (λ y. is_link x y && n x y) (slice_get zone.records place) false) zone.origin) zone.records ≡ whole
       by None q k = cc
       by (Some r) q k =
-          ap (λ o. list_any (names_failing_chain (λ x. option_map_or (λ y. is_out_of_order zone y x) o false) zone.origin) zone.records) q
-          ∙ any_begun (λ x. same_name x.owner zone.origin) names_chain (λ x. is_same_field 0 x r && (is_same_field 2 x r && is_same_field 3 x r)) (λ x. not (points_to_next zone x r)) (type_of r == Rtype.nsec3) zone.records
-          ∙ sym ((λ i. names_other_hash zone (some_is k i)) ∙ other_listed R S zone r)
+          ap (λ o. list_any (names_failing_chain (λ x. option_map_or (λ y. is_link x y && n x y) o false) zone.origin) zone.records) q
+          ∙ any_begun (λ x. same_name x.owner zone.origin) names_chain (λ x. is_same_field 0 x r && (is_same_field 2 x r && is_same_field 3 x r)) (λ x. n x r) (type_of r == Rtype.nsec3) zone.records
+          ∙ sym (h r (some_is k))
+
+  pub other_is : list_any (names_failing_chain (misorders zone place) zone.origin) zone.records ≡ names_other_hash zone found
+  other_is = link_is (λ x y. not (points_to_next zone x y)) (names_other_hash zone found) (λ r e. ap (names_other_hash zone) e ∙ other_listed R S zone r)
+
+  pub unmatched_is : list_any (names_failing_chain (is_unmatched_in zone place) zone.origin) zone.records ≡ matches_no_name zone found
+  unmatched_is =
+      link_is (λ x y. is_bounded x && not (list_any (shows_hashed zone x y.owner) zone.records)) (matches_no_name zone found) (λ r e. ap (matches_no_name zone) e ∙ no_name_listed R S zone r)
+
+  pub flag_is : list_any (names_failing_chain (is_lone_flag_in zone place) zone.origin) zone.records ≡ has_own_flag zone found
+  flag_is = link_is (λ x y. is_bounded x && is_flag_lone x (opts_out y) zone.records) (has_own_flag zone found) (λ r e. ap (has_own_flag zone) e ∙ own_flag_listed R S zone r)

@@ -1,11 +1,13 @@
 mod ChainLinks
 mod ChainSearch
 mod ChainTests
+mod Counts
 mod HashLabels
 mod KeyTags
 mod KnownNames
 mod LabelCounts
 mod LinkSearches
+mod Marks
 mod NextNames
 mod OwnedRecords
 mod Searches

@@ -8,7 +8,7 @@ use Rattle.zone_dnssec.specs.SecurityFindings.{breaks_security, breaks_security_
 use Rattle.zone_dnssec.specs.Subjects.{IsSignedSubject}
 use Rattle.zone_dnssec.specs.ZoneViews.{ZoneView, zone_with}
 use Rattle.finding_codes.specs.declared.code.Code.{Code}
-use Rattle.finding_codes.specs.declared.code.Code.TheVariants.{Expired, ExpiresSoon, NotYetValid, RrsigTimes, RrsigSigner, RrsigLabels, RrsigLength, OriginalTtl, RrsigTtl, Unsigned, NoKey, KeyMissing, RrsigKey, KeyLength, SignsNothing, OccludedDnssec, NoNsec, NsecNext, NsecTypes, NoNsec3, Nsec3Next, Nsec3Types, Nsec3Owner, Nsec3Iterations, Nsec3Iterations50, Nsec3Iterations0, NsecTtl, CdsDelete}
+use Rattle.finding_codes.specs.declared.code.Code.TheVariants.{Expired, ExpiresSoon, NotYetValid, RrsigTimes, RrsigSigner, RrsigLabels, RrsigLength, OriginalTtl, RrsigTtl, Unsigned, NoKey, KeyMissing, RrsigKey, RrsigAlgorithm, KeyLength, SignsNothing, OccludedDnssec, NoNsec, NsecNext, NsecTypes, NoNsec3, Nsec3Next, Nsec3Types, Nsec3Owner, Nsec3Iterations, Nsec3Iterations50, Nsec3Iterations0, NsecTtl, Nsec3Extra, OptOut, CdsDelete}
 use Rattle.zone_dnssec.specs.declared.subject.Subject.{Subject}
 use Rattle.zone_dnssec.specs.declared.times.Times.{Times}
 
@@ -32,6 +32,8 @@ security_listed R S NoKey zone times None r = refl
 security_listed R S NoKey zone times (Some b) r = refl
 security_listed R S KeyMissing zone times before r = refl
 security_listed R S RrsigKey zone times before r = refl
+security_listed R S RrsigAlgorithm zone times None r = refl
+security_listed R S RrsigAlgorithm zone times (Some b) r = refl
 security_listed R S KeyLength zone times before r = refl
 security_listed R S SignsNothing zone times before r = refl
 security_listed R S OccludedDnssec zone times before r = refl
@@ -49,6 +51,8 @@ security_listed R S Nsec3Iterations zone times before r = refl
 security_listed R S Nsec3Iterations50 zone times before r = refl
 security_listed R S Nsec3Iterations0 zone times before r = refl
 security_listed R S NsecTtl zone times before r = refl
+security_listed R S Nsec3Extra zone times before r = refl
+security_listed R S OptOut zone times before r = refl
 security_listed R S CdsDelete zone times before r = refl
 security_listed R S _ zone times before r = refl
 

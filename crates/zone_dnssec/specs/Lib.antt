@@ -1,3 +1,4 @@
+pub mod ChainCounts
 pub mod ChainFaults
 pub mod ChainLinks
 pub mod DeleteForms
@@ -8,6 +9,7 @@ pub mod KeyLengths
 pub mod Nsec3Chain
 pub mod NsecChain
 pub mod NsecTypes
+pub mod OptOutFlags
 pub mod OwnedRecords
 pub mod Parameters
 pub mod Rows
@@ -15,6 +17,8 @@ pub mod SecurityFindings
 pub mod SignatureFields
 pub mod SignatureTimes
 pub mod SignedSets
+pub mod SigningAlgorithms
 pub mod Subjects
+pub mod UnmatchedLinks
 pub mod ZoneKeys
 pub mod ZoneViews

@@ -11,9 +11,10 @@ use Rattle.zone_dnssec.specs.NsecChain.{is_hashed_denial}
 use Rattle.zone_dnssec.specs.NsecTypes.{is_unlisted}
 use Rattle.zone_dnssec.specs.Parameters.{names_chain}
 use Rattle.zone_dnssec.specs.SignedSets.{covers}
+use Rattle.zone_dnssec.specs.SigningAlgorithms.{covers_by, is_key_with, validly_covers}
 use Rattle.zone_dnssec.specs.ZoneKeys.{fits_key}
 use Rattle.zone_dnssec.specs.declared.owned.Wanted.{Wanted}
-use Rattle.zone_dnssec.specs.declared.owned.Wanted.TheVariants.{Soa, Signature, FittingSignature, Ttl, Unlisted, KeyRequest, Chain, MoreThanHashes}
+use Rattle.zone_dnssec.specs.declared.owned.Wanted.TheVariants.{Soa, Signature, FittingSignature, Ttl, Unlisted, KeyRequest, Chain, MoreThanHashes, ValidSignature, SignatureBy, KeyWith}
 
 -- the greater of two indexes
 abbrev pub greater_of : ℕ → ℕ → ℕ
@@ -29,6 +30,9 @@ is_wanted_record (Unlisted bitmap is_cut) r = is_unlisted is_cut bitmap.now r
 is_wanted_record KeyRequest r = asks_for_key r
 is_wanted_record Chain r = names_chain r
 is_wanted_record MoreThanHashes r = not (is_hashed_denial r)
+is_wanted_record (ValidSignature keys rtype) r = validly_covers keys.now rtype r
+is_wanted_record (SignatureBy keys rtype algorithm) r = covers_by keys.now rtype algorithm r
+is_wanted_record (KeyWith algorithm) r = is_key_with algorithm r
 
 -- the record at an index is wanted
 abbrev pub is_wanted_in : {N O : Type 0} → Wanted → List (Record N O) → ℕ → Bool

@@ -11,15 +11,18 @@ use Rattle.zone_dnssec.specs.HashedLinks.{fails_chain, names_other_hash}
 use Rattle.zone_dnssec.specs.KeyLengths.{has_other_key_length, has_other_signature_length}
 use Rattle.zone_dnssec.specs.NsecChain.{lacks_nsec, names_other_next}
 use Rattle.zone_dnssec.specs.NsecTypes.{lists_other_types}
+use Rattle.zone_dnssec.specs.OptOutFlags.{has_own_flag}
 use Rattle.zone_dnssec.specs.SignatureFields.{has_other_labels, has_other_original_ttl, has_other_own_ttl, has_other_signer}
 use Rattle.zone_dnssec.specs.SignatureTimes.{is_expired, expires_within, has_reversed_times, is_early}
 use Rattle.zone_dnssec.specs.SignedSets.{is_missing_signature, signs_nothing}
+use Rattle.zone_dnssec.specs.SigningAlgorithms.{breaks_algorithms}
+use Rattle.zone_dnssec.specs.UnmatchedLinks.{matches_no_name}
 use Rattle.zone_dnssec.specs.ZoneKeys.{is_by_revoked_key, lacks_known_key, misses_key, zone_keys}
 use Rattle.zone_dnssec.specs.ZoneViews.{ZoneView, zone_with}
 use Rattle.zone_dnssec.specs.declared.hashed.LinkFault.TheVariants.{Missing, DifferentTypes}
 use Rattle.zone_dnssec.specs.declared.rule.SecurityFinding.{SecurityFinding}
 use Rattle.finding_codes.specs.declared.code.Code.{Code}
-use Rattle.finding_codes.specs.declared.code.Code.TheVariants.{Expired, ExpiresSoon, NotYetValid, RrsigTimes, RrsigSigner, RrsigLabels, RrsigLength, OriginalTtl, RrsigTtl, Unsigned, NoKey, KeyMissing, RrsigKey, KeyLength, SignsNothing, OccludedDnssec, NoNsec, NsecNext, NsecTypes, NoNsec3, Nsec3Next, Nsec3Types, Nsec3Owner, Nsec3Iterations, Nsec3Iterations50, Nsec3Iterations0, NsecTtl, CdsDelete}
+use Rattle.finding_codes.specs.declared.code.Code.TheVariants.{Expired, ExpiresSoon, NotYetValid, RrsigTimes, RrsigSigner, RrsigLabels, RrsigLength, OriginalTtl, RrsigTtl, Unsigned, NoKey, KeyMissing, RrsigKey, RrsigAlgorithm, KeyLength, SignsNothing, OccludedDnssec, NoNsec, NsecNext, NsecTypes, NoNsec3, Nsec3Next, Nsec3Types, Nsec3Owner, Nsec3Iterations, Nsec3Iterations50, Nsec3Iterations0, NsecTtl, Nsec3Extra, OptOut, CdsDelete}
 use Rattle.zone_dnssec.specs.declared.times.Times.{Times}
 
 -- whether a record breaks a rule, which the code of a finding names, beside the one before it
@@ -37,6 +40,7 @@ breaks_security Unsigned zone times before r = is_missing_signature zone.origin 
 breaks_security NoKey zone times before r = lacks_known_key (zone_keys zone.origin zone.records) zone.origin zone.records before r
 breaks_security KeyMissing zone times before r = misses_key (zone_keys zone.origin zone.records) zone.records r
 breaks_security RrsigKey zone times before r = is_by_revoked_key (zone_keys zone.origin zone.records) r
+breaks_security RrsigAlgorithm zone times before r = breaks_algorithms zone before r
 breaks_security KeyLength zone times before r = has_other_key_length r
 breaks_security SignsNothing zone times before r = signs_nothing zone.records r
 breaks_security OccludedDnssec zone times before r = is_occluded zone.origin zone.records r
@@ -51,6 +55,8 @@ breaks_security Nsec3Iterations zone times before r = iterates_within 150 65535 
 breaks_security Nsec3Iterations50 zone times before r = iterates_within 50 150 zone.origin r
 breaks_security Nsec3Iterations0 zone times before r = iterates_within 0 50 zone.origin r
 breaks_security NsecTtl zone times before r = has_other_denial_ttl (denial_ttl zone.origin zone.records) r
+breaks_security Nsec3Extra zone times before r = matches_no_name zone r
+breaks_security OptOut zone times before r = has_own_flag zone r
 breaks_security CdsDelete zone times before r = deletes_beside_keys zone.origin zone.records r
 breaks_security _ zone times before r = false
 
@@ -61,7 +67,7 @@ insecure_if is_broken rule place = if is_broken then record { rule = rule; «rec
 -- the rules, in the order in which their findings are reported
 abbrev pub security_rules : List Code
 security_rules =
-    Expired ∷ ExpiresSoon ∷ NotYetValid ∷ RrsigTimes ∷ RrsigSigner ∷ RrsigLabels ∷ RrsigLength ∷ OriginalTtl ∷ RrsigTtl ∷ Unsigned ∷ NoKey ∷ KeyMissing ∷ RrsigKey ∷ KeyLength ∷ SignsNothing ∷ OccludedDnssec ∷ NoNsec ∷ NsecNext ∷ NsecTypes ∷ NoNsec3 ∷ Nsec3Next ∷ Nsec3Types ∷ Nsec3Owner ∷ Nsec3Iterations ∷ Nsec3Iterations50 ∷ Nsec3Iterations0 ∷ NsecTtl ∷ CdsDelete ∷ []
+    Expired ∷ ExpiresSoon ∷ NotYetValid ∷ RrsigTimes ∷ RrsigSigner ∷ RrsigLabels ∷ RrsigLength ∷ OriginalTtl ∷ RrsigTtl ∷ Unsigned ∷ NoKey ∷ KeyMissing ∷ RrsigKey ∷ RrsigAlgorithm ∷ KeyLength ∷ SignsNothing ∷ OccludedDnssec ∷ NoNsec ∷ NsecNext ∷ NsecTypes ∷ NoNsec3 ∷ Nsec3Next ∷ Nsec3Types ∷ Nsec3Owner ∷ Nsec3Iterations ∷ Nsec3Iterations50 ∷ Nsec3Iterations0 ∷ NsecTtl ∷ Nsec3Extra ∷ OptOut ∷ CdsDelete ∷ []
 
 -- the record at an index breaks the rule
 abbrev pub breaks_security_at : {N O : Type 0} → ZoneView N O → Times → ℕ → Code → Bool

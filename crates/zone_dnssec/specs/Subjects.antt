@@ -1,9 +1,11 @@
 -- A record at an index, with what rules ask of it: words for private functions.
-use Rattle.std.specs.Prelude.{◌≡◌, ℕ, ◌==◌, ◌&&◌, ◌||◌, not, Bool, false, Option, Some, None, List, slice_get, ⊤}
+use Rattle.std.specs.Prelude.{◌≡◌, ℕ, nat_eq, ◌==◌, ◌&&◌, ◌||◌, not, Bool, false, Option, Some, None, List, slice_get, ⊤}
+use Rattle.std.specs.Cmp.Lexicographic.{pointwise}
 use Rattle.std.specs.Option.{option_map, option_map_or}
 use Rattle.rdata_values.specs.Rtype as Rtype
 use Rattle.dns_octets.specs.Lowered.{same_lowered}
 use Rattle.dns_wire.specs.Wire.{wire}
+use Rattle.zone_record.specs.Records.{data_of}
 use Rattle.zone_record.specs.declared.record.Record.{Record}
 use Rattle.zone_rules.specs.Searches.{AreOwnedFrom}
 use Rattle.zone_rules.specs.Rules.{is_below_zone_cut, is_zone_cut}
@@ -11,14 +13,18 @@ use Rattle.zone_rules.specs.Zones.{as_listed, record_before, set_type, type_of}
 use Rattle.zone_dnssec.specs.DenialRecords.{denial_ttl}
 use Rattle.zone_dnssec.specs.HashedLinks.{fails_chain, names_other_hash}
 use Rattle.zone_dnssec.specs.NsecChain.{is_in_chain}
+use Rattle.zone_dnssec.specs.OptOutFlags.{has_own_flag}
 use Rattle.zone_dnssec.specs.Parameters.{has_named_chain}
 use Rattle.zone_dnssec.specs.SecurityFindings.{breaks_security, breaks_security_at}
 use Rattle.zone_dnssec.specs.SignedSets.{belongs_to_parent, covers_some_set, is_authoritative}
+use Rattle.zone_dnssec.specs.SigningAlgorithms.{signs_set, zone_signers}
+use Rattle.zone_dnssec.specs.UnmatchedLinks.{matches_no_name}
 use Rattle.zone_dnssec.specs.ZoneKeys.{zone_keys}
-use Rattle.zone_dnssec.specs.ZoneViews.{zone_with}
+use Rattle.zone_dnssec.specs.ZoneViews.{ZoneView, zone_with}
 use Rattle.zone_dnssec.specs.declared.check.Facts.{Facts}
 use Rattle.zone_dnssec.specs.declared.hashed.LinkFault.TheVariants.{Missing, DifferentTypes}
 use Rattle.finding_codes.specs.declared.code.Code.{Code}
+use Rattle.zone_dnssec.specs.declared.keys.Key.{Key}
 use Rattle.zone_dnssec.specs.declared.sets.KnownOwner.{KnownOwner}
 use Rattle.zone_dnssec.specs.declared.subject.OwnerFacts.{OwnerFacts}
 use Rattle.zone_dnssec.specs.declared.subject.Subject.{Subject}
@@ -71,9 +77,18 @@ is_in_chain_at origin records place = option_map_or (is_in_chain origin records)
 abbrev pub is_owner_in : {N O : Type 0} → List ℕ → List (Record N O) → ℕ → Bool
 is_owner_in octets records place = option_map_or (λ r. same_lowered octets (wire r.owner)) (slice_get records place) false
 
+-- the record at an index is an RRSIG by an algorithm that fits a key and signs an RRset
+abbrev pub signs_set_in : {N O : Type 0} → List Key → ZoneView N O → ℕ → Bool → ℕ → Bool
+signs_set_in keys zone algorithm is_of_keys place = option_map_or (signs_set keys zone algorithm is_of_keys) (slice_get zone.records place) false
+
+-- the RDATA of the record at an index has these octets
+abbrev pub has_octets_in : {N O : Type 0} → List ℕ → List (Record N O) → ℕ → Bool
+has_octets_in octets records place = option_map_or (λ r. pointwise nat_eq (data_of r).octets octets) (slice_get records place) false
+
 -- facts about a zone as a whole
 pub record AreZoneFacts {N O : Type 0} (origin : List (List ℕ)) (records : List (Record N O)) (facts : Facts) : Type 0 where
   pub keys : facts.keys.now ≡ zone_keys origin records
+  pub signers : facts.signers.now ≡ zone_signers (zone_with origin records) (zone_keys origin records)
   pub ttl : facts.denial_ttl ≡ denial_ttl origin records
   pub chain : facts.has_chain ≡ has_named_chain origin records
 
@@ -86,6 +101,8 @@ pub record IsSignedSubject {N O : Type 0} (origin : List (List ℕ)) (records : 
   pub missing : s.faults.is_missing ≡ fails_chain Missing (zone_with origin records) s.before s.found
   pub types : s.faults.has_other_types ≡ fails_chain DifferentTypes (zone_with origin records) s.before s.found
   pub next : s.faults.has_other_next ≡ names_other_hash (zone_with origin records) s.found
+  pub unmatched : s.faults.is_unmatched ≡ matches_no_name (zone_with origin records) s.found
+  pub flag : s.faults.has_lone_flag ≡ has_own_flag (zone_with origin records) s.found
 
 -- the record of a subject breaks a rule
 abbrev pub breaks_security_by : {N O : Type 0} → Code → List (List ℕ) → List (Record N O) → Times → Subject → Bool

@@ -6,6 +6,7 @@ ghost use Rattle.zone_dnssec.specs.SecurityFindings.{insecure_at, insecure_if, i
 ghost use Rattle.zone_dnssec.specs.Subjects.{breaks_security_by, is_security_broken, AreZoneFacts, IsKnown, IsSignedSubject};
 ghost use Rattle.zone_dnssec.specs.ZoneViews.{zone_with};
 
+use crate::algorithms::{Signer, is_of_lone_algorithm, lacks_algorithm, signers_of};
 use crate::bitmaps::has_wrong_types;
 use crate::chain::{has_chain, is_without_nsec};
 use crate::deletes::is_delete_beside_keys;
@@ -34,7 +35,7 @@ use zone_rules::names::view;
 use zone_rules::zone_records::OwnerBuffer;
 
 /// The rules, in the order in which their findings are reported.
-const SECURITY_RULES: [Code; 28] = [
+const SECURITY_RULES: [Code; 31] = [
     Code::Expired,
     Code::ExpiresSoon,
     Code::NotYetValid,
@@ -48,6 +49,7 @@ const SECURITY_RULES: [Code; 28] = [
     Code::NoKey,
     Code::KeyMissing,
     Code::RrsigKey,
+    Code::RrsigAlgorithm,
     Code::KeyLength,
     Code::SignsNothing,
     Code::OccludedDnssec,
@@ -62,17 +64,20 @@ const SECURITY_RULES: [Code; 28] = [
     Code::Nsec3Iterations50,
     Code::Nsec3Iterations0,
     Code::NsecTtl,
+    Code::Nsec3Extra,
+    Code::OptOut,
     Code::CdsDelete,
 ];
 
 /// Greatest number of iterations with which newer validators, too, treat a zone as signed.
 const FEW_ITERATIONS: u16 = 50;
 
-/// Facts about the zone as a whole: the keys at its apex, the TTL of NSEC and NSEC3, and whether an
+/// Facts about the zone as a whole: the keys at its apex, what their algorithms sign, the TTL of NSEC and NSEC3, and whether an
 /// NSEC3PARAM names a chain.
 #[derive(Clone, Copy)]
 pub(crate) struct Facts<'a> {
     keys: &'a [Key],
+    signers: &'a [Signer],
     denial_ttl: Option<u32>,
     has_chain: bool,
 }
@@ -106,6 +111,10 @@ fn breaks_rule<Z: ZoneRecords>(
         Code::NoKey => is_without_key(facts.keys, origin, records, subject),
         Code::KeyMissing => is_of_unknown_key(facts.keys, records, subject),
         Code::RrsigKey => is_of_revoked_key(facts.keys, record),
+        Code::RrsigAlgorithm => {
+            is_of_lone_algorithm(facts.signers, origin, records, record)
+                || lacks_algorithm(facts.keys, facts.signers, origin, records, subject)
+        }
         Code::KeyLength => has_other_key_length(record),
         Code::SignsNothing => is_without_set(records, subject),
         Code::OccludedDnssec => is_out_of_place(subject),
@@ -120,6 +129,8 @@ fn breaks_rule<Z: ZoneRecords>(
         Code::Nsec3Iterations50 => has_iterations(FEW_ITERATIONS, MOST_ITERATIONS, origin, record),
         Code::Nsec3Iterations0 => has_iterations(0, FEW_ITERATIONS, origin, record),
         Code::NsecTtl => has_wrong_denial_ttl(facts.denial_ttl, record),
+        Code::Nsec3Extra => subject.faults.is_unmatched,
+        Code::OptOut => subject.faults.has_lone_flag,
         Code::CdsDelete => is_delete_beside_keys(origin, records, record),
         _ => false,
     }
@@ -248,8 +259,10 @@ pub fn check_signed<Z: ZoneRecords, Origin: AsOctets, A: Allocator + Copy>(
         return Ok(found);
     }
     let keys = keys_at_apex(alloc, &apex, records)?;
+    let signers = signers_of(alloc, &apex, records, keys.as_slice())?;
     let facts = Facts {
         keys: keys.as_slice(),
+        signers: signers.as_slice(),
         denial_ttl: ttl_of_denial(&apex, records),
         has_chain: has_chain(&apex, records),
     };

@@ -122,7 +122,7 @@ pub(crate) fn has_wrong_next_hash<Z: ZoneRecords>(
 }
 
 /// Returns the owner of the NSEC3 that matches a name.
-fn owner_for<'c, A: Allocator>(
+pub(crate) fn owner_for<'c, A: Allocator>(
     hashes: &mut Hashes<'c, A>,
     origin: &Name<&[u8]>,
     chain: &'c ZoneRecord<'_>,
@@ -340,7 +340,7 @@ fn is_to_be_hashed<Z: ZoneRecords>(
 }
 
 /// Returns whether names are hashed for a chain: it has at most 150 iterations.
-fn is_short(chain: &ZoneRecord<'_>) -> bool
+pub(crate) fn is_short(chain: &ZoneRecord<'_>) -> bool
     ensures { result ≡ is_bounded chain.now }
 {
     iterations(chain) <= MOST_ITERATIONS

@@ -35,7 +35,7 @@ const RSA_MD5: u8 = 1;
 pub struct Key {
     pub(crate) tag: u16,
     pub(crate) algorithm: u8,
-    is_revoked: bool,
+    pub(crate) is_revoked: bool,
     pub(crate) modulus_len: usize,
 }
 
@@ -205,7 +205,7 @@ pub(crate) fn fits(keys: &[Key], record: &ZoneRecord<'_>) -> bool
 }
 
 /// Returns whether an RRSIG fits a key that is not revoked.
-fn fits_valid(keys: &[Key], record: &ZoneRecord<'_>) -> bool
+pub(crate) fn fits_valid(keys: &[Key], record: &ZoneRecord<'_>) -> bool
     ensures { result ≡ list_any (λ key. is_named «record».now key && not key.is_revoked) keys.now }
 {
     let algorithm = first(field(record, ALGORITHM));

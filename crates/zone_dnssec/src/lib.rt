@@ -2,6 +2,7 @@
 //! is computed.
 #![tactic(auto)]
 
+pub mod algorithms;
 pub mod bitmaps;
 pub mod chain;
 pub mod chain_links;
@@ -9,6 +10,7 @@ pub mod check;
 pub mod deletes;
 pub mod denial;
 pub mod faults;
+pub mod flags;
 pub mod hashed;
 pub mod hashes;
 pub mod keys;
@@ -22,6 +24,7 @@ pub mod sets;
 pub mod signatures;
 pub mod subject;
 pub mod times;
+pub mod unmatched;
 
 pub use check::check_signed;
 pub use rule::SecurityFinding;

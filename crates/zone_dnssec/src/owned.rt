@@ -4,6 +4,7 @@ ghost use Rattle.zone_dnssec.specs.OwnedRecords.{find_owned, greater_of, has_own
 ghost use Rattle.zone_dnssec.specs.Subjects.{HasOwnRange};
 ghost use Rattle.zone_rules.specs.Zones.{has_owner};
 
+use crate::algorithms::{covers_by, is_key_with, validly_covers};
 use crate::bitmaps::is_unlisted;
 use crate::chain::is_hashed_denial;
 use crate::deletes::is_for_key;
@@ -37,6 +38,12 @@ pub enum Wanted<'k> {
     Chain,
     /// Neither an NSEC3 nor a signature of NSEC3s.
     MoreThanHashes,
+    /// An RRSIG that covers a type, and fits a key that is not revoked, or covers DNSKEY and fits a key.
+    ValidSignature(&'k [Key], RecordType),
+    /// The same by an algorithm.
+    SignatureBy(&'k [Key], RecordType, u8),
+    /// A DNSKEY with an algorithm.
+    KeyWith(u8),
 }
 
 /// Returns whether a record is wanted.
@@ -52,6 +59,9 @@ fn is_wanted(wanted: &Wanted<'_>, record: &ZoneRecord<'_>) -> bool
         Wanted::KeyRequest => is_for_key(record),
         Wanted::Chain => is_chain(record),
         Wanted::MoreThanHashes => !is_hashed_denial(record),
+        Wanted::ValidSignature(keys, rtype) => validly_covers(keys, rtype, record),
+        Wanted::SignatureBy(keys, rtype, algorithm) => covers_by(keys, rtype, algorithm, record),
+        Wanted::KeyWith(algorithm) => is_key_with(algorithm, record),
     }
 }
 

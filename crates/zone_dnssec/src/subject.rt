@@ -26,6 +26,10 @@ pub struct ChainFaults {
     pub has_other_types: bool,
     /// Whether the record is an NSEC3 of a chain, and its next hash is wrong.
     pub has_other_next: bool,
+    /// Whether the record is an NSEC3 of a chain that matches no name.
+    pub is_unmatched: bool,
+    /// Whether the record is the only NSEC3 of a chain with its Opt-Out flag.
+    pub has_lone_flag: bool,
 }
 
 /// The record at an index, the one before it, and facts about it.

@@ -17,4 +17,5 @@ returns g c =
     λ i. faults_with
     ((c.first_faults-names.ensures.missing ∙ beside_is Missing zone chain place c.record_before-before.result c.record-one.result c.record_before-before.ensures c.record-one.ensures) i)
     ((c.first_faults-names.ensures.types ∙ beside_is DifferentTypes zone chain place c.record_before-before.result c.record-one.result c.record_before-before.ensures c.record-one.ensures) i)
-    ((c.has_wrong_next_hash.ensures ∙ of_listed (λ r. is_out_of_order zone r chain) (λ r. is_out_of_order zone r chain) (λ r. refl) (slice_get records place) c.record-one.result false c.record-one.ensures) i)
+    ((c.has_wrong_next_hash.ensures ∙ of_listed (λ r. is_out_of_order zone r chain) (λ r. is_out_of_order zone r chain) (λ r. refl) (slice_get records place) c.record-one.result false c.record-one.ensures) i) false
+    false

@@ -1,19 +1,36 @@
-use Rattle.std.proofs.Common.{◌++◌, ◌∷◌, [], length, ap, ◌∙◌, arith}
+use Rattle.std.proofs.Common.{◌≡◌, length, sym, ap, subst, ◌∙◌}
+use Rattle.std.specs.Prelude.{IfOk}
+use Rattle.std.proofs.lemmas.Result.{IfOk-weaker}
+use Rattle.zone_dnssec.specs.ChainFaults.{late_faults, link_faults, AddsChain, AddsFaults}
+use Rattle.zone_dnssec.specs.UnmatchedLinks.{AreMarks}
 use Rattle.zone_dnssec.specs.ZoneViews.{zone_with}
-use Rattle.zone_dnssec.proofs.ChainTests.{chain_pushed}
+use Rattle.zone_dnssec.proofs.ChainTests.{parts_added}
+use Rattle.zone_dnssec.proofs.Marks.{taken_whole, unset_marks}
 use Rattle.zone_dnssec.proofs.faults.with_chain.Goals as goal
 
-pub loop-place-init : goal.loop-place-init
-loop-place-init g c = record { size = ap length c.new-faults.ensures.items; each = λ i d lt. absurd (omega (arith, lt)) }
+pub with_links-requires-clause-marks : goal.with_links-requires-clause-marks
+with_links-requires-clause-marks g c =
+    unset_marks (zone_with c.args.origin.now (g.Z.ZoneRecords.contents c.args.records.now)) c.args.chain.now c.as_mut_slice.result.now (length c.args.others.now) (c.as_mut_slice.ensures.value ∙ c.in_ok-marks.ensures) c.requires
 
-pub loop-place-preserved : goal.loop-place-preserved
-loop-place-preserved g c =
-    chain_pushed (zone_with c.args.origin.now (g.Z.ZoneRecords.contents c.args.records.now)) c.args.chain.now c.args.others.now c.loop-place.faults.items c.push.new.self.items c.loop-place.place
-    c.faults_by_number-other.result c.faults_at-here.result c.loop-place.invariant c.faults_by_number-other.ensures c.faults_at-here.ensures
-    (c.in_ok-push.ensures.items ∙ ap (λ x. c.loop-place.faults.items ++ x ∷ []) c.either.ensures)
+pub with_late-requires-clause-marks : goal.with_late-requires-clause-marks
+with_late-requires-clause-marks g c =
+    let records = g.Z.ZoneRecords.contents c.args.records.now in
+    let zone = zone_with c.args.origin.now records in
+    let chain = c.args.chain.now in
+    let first = unset_marks zone chain c.as_mut_slice.result.now (length c.args.others.now) (c.as_mut_slice.ensures.value ∙ c.in_ok-marks.ensures) c.requires in
+    let size : c.in_ok-marks.marks.len ≡ length c.with_links.new.marks = sym c.as_mut_slice.ensures.len ∙ first.size ∙ sym c.in_ok-faults.ensures.marks.size in
+    subst (AreMarks zone chain records) (sym (c.as_slice.ensures.value ∙ taken_whole c.in_ok-marks.marks.len c.with_links.new.marks _ size)) c.in_ok-faults.ensures.marks
+
+pub with_late-requires-clause-others : goal.with_late-requires-clause-others
+with_late-requires-clause-others g c = ap length c.as_slice-2.ensures.value ∙ c.in_ok-faults.ensures.faults.size ∙ c.requires
 
 pub returns : goal.returns
-returns g c = record {
-  size = omega (arith, c.loop-place.invariant.size, c.loop-place.auto.place-end, c.loop-place-test.false);
-  each = λ i d lt. c.loop-place.invariant.each i d (omega (arith, lt, c.loop-place-test.false));
-}
+returns g c =
+    let zone = zone_with c.args.origin.now (g.Z.ZoneRecords.contents c.args.records.now) in
+    let chain = c.args.chain.now in
+    let others = c.args.others.now in
+    let mid = c.as_slice-2.result.now in
+    let same : length mid ≡ length others = ap length c.as_slice-2.ensures.value ∙ c.in_ok-faults.ensures.faults.size in
+    IfOk-weaker c.with_late.result (λ faults. AddsFaults (late_faults zone chain) mid (length mid) faults.items) (λ faults. AddsChain zone chain others (length others) faults.items)
+    (λ faults added. parts_added zone chain others mid faults.items (length others) (length mid) same
+    (subst (λ l. AddsFaults (link_faults zone chain) others (length others) l) (sym c.as_slice-2.ensures.value) c.in_ok-faults.ensures.faults) added) c.with_late.ensures

@@ -1,0 +1,7 @@
+use Rattle.std.proofs.Common.{◌≡◌, drop}
+use Rattle.std.specs.Prelude.{◌==◌, ◌&&◌, not}
+use Rattle.std.specs.List.{list_any}
+use Rattle.zone_dnssec.proofs.algorithms.signs_keys_alone.Given as goal
+
+abbrev pub invariant-loop-signer : goal.invariant-loop-signer
+invariant-loop-signer l = list_any (λ s. s.algorithm == l.algorithm && (s.signs_keys && not s.signs_others)) l.signers ≡ list_any (λ s. s.algorithm == l.algorithm && (s.signs_keys && not s.signs_others)) (drop l.signer-index l.signers)
