@@ -30,7 +30,7 @@ none_pieces : IsPieces [] (end_at 0 false ∷ [])
 none_pieces = record { lexemes = []; spelled = refl; valid = refl; nested = refl; placed = refl }
 
 -- the last piece is the end of the text
-last_piece : (text : List ℕ) (found : List Piece) → IsPieces text found → (front : List Piece) × (b : Bool) × (found ≡ front ++ end_at (length text) b ∷ [])
+pub last_piece : (text : List ℕ) (found : List Piece) → IsPieces text found → (front : List Piece) × (b : Bool) × (found ≡ front ++ end_at (length text) b ∷ [])
 last_piece text found p = let j = pieces_joined text [] false found (end_at 0 false ∷ []) p none_pieces in (j.0, j.1, j.2)
 
 module _ (octets : List ℕ) (f : ℕ → ℕ) where

@@ -26,5 +26,6 @@ mod Row
 mod TextStrings
 mod ToldTexts
 mod ValueRooms
+mod Wholes
 mod Written
 mod ZoneReads

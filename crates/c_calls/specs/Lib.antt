@@ -22,3 +22,4 @@ pub mod Rows
 pub mod Status
 pub mod Strings
 pub mod TextData
+pub mod WholeEntries

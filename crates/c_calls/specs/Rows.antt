@@ -1,15 +1,17 @@
 -- Worked examples of the definitions, each computed.
-use Rattle.std.specs.Prelude.{◌≡◌, true, false, [], ◌∷◌, ◌++◌, map, codes, decimal, refl, Some, None}
+use Rattle.std.specs.Prelude.{◌≡◌, true, false, [], ◌∷◌, ◌++◌, map, codes, decimal, refl, Some, None, Ok}
 use Rattle.std.specs.List.{flat_map}
 use Rattle.rdata_values.specs.Classes.{class_text}
 use Rattle.rdata_values.specs.Rtype as Rtype
 use Rattle.rdata_values.specs.Types.{type_rows, type_text}
 use Rattle.zone_reader.specs.declared.ttl.RecordTtl.TheVariants.{Explicit, Default, Last}
+use Rattle.dns_lexer.specs.Pieces.{end_at, word_at}
 use Rattle.c_calls.specs.Kept.{flagged}
 use Rattle.c_calls.specs.NameForms.{ends_with_name}
 use Rattle.c_calls.specs.Records.{returned_ttl}
 use Rattle.c_calls.specs.Status.{status_text}
 use Rattle.c_calls.specs.TextData.{string_wire, strings_length}
+use Rattle.c_calls.specs.WholeEntries.{end_after}
 use Rattle.c_calls.specs.Reports.{number_of}
 use Rattle.c_calls.specs.declared.outcome.Refusal.TheVariants.{NoRoom, BadPlace, BadTtl, UnknownType, UnknownClass, Closing, OpenParenthesis, OpenQuote, LoneReturn, BadEscape, NotSupported, NoOrigin, NoOwner, RefusedOwner, NoTtl}
 
@@ -57,3 +59,10 @@ ends = refl
 
 longer_zone : ends_with_name (codes "example" ∷ [] ∷ []) (codes "www" ∷ codes "example" ∷ [] ∷ []) ≡ false
 longer_zone = refl
+
+-- the pieces of "a\nb\nc": an entry ends at 2 and one at 4, before the last word
+ends_of_entries : end_after 0 (Ok (word_at 0 1) ∷ Ok (end_at 2 false) ∷ Ok (word_at 2 3) ∷ Ok (end_at 4 false) ∷ Ok (word_at 4 5) ∷ []) ≡ 4
+ends_of_entries = refl
+
+no_entry_ends : end_after 7 (Ok (word_at 7 8) ∷ []) ≡ 7
+no_entry_ends = refl

@@ -1,5 +1,6 @@
 //! Finds the entries of a text that are whole, whatever follows it.
-ghost use Rattle.std.specs.Prelude.{◌<◌, ◌≡◌, ◌≤◌, IfSome, length};
+ghost use Rattle.std.specs.Prelude.{◌≡◌, ◌≤◌, IfSome, Ok, [], ◌∷◌, length};
+ghost use Rattle.c_calls.specs.WholeEntries.{EndsEntries, EndsLine, EndsWhole, end_after};
 
 use crate::outcome::OK;
 use dns_lexer::pieces::{Fault, Piece, Pieces};
@@ -11,23 +12,36 @@ struct Wholes {
     fault: Option<Fault>,
 }
 
+/// Returns where the last entry ends, after a piece that follows the entries up to `ended`.
+fn end_of(piece: Piece, ended: usize) -> usize
+    ensures { result ≡ end_after ended (Ok piece ∷ []) }
+{
+    match piece {
+        Piece::End(end) => end.at,
+        _ => ended,
+    }
+}
+
 /// Returns the end of the entries from an offset on after which something follows, and the syntax
 /// error after them, if there is one.
 fn whole_entries(text: &[u8], at: usize) -> Wholes
     requires { at ≤ length text.now }
-    ensures { result.end ≤ length text.now }
+    ensures reads { EndsEntries text.now at result.end result.fault }
+    ensures within { result.end ≤ length text.now }
+    ensures later { IfSome result.fault (λ fault. at ≤ fault.at) }
 {
     let mut whole = at;
     let mut ended = at;
     let mut pieces = Pieces::of_octets_starting_at(text, at);
     'pieces: while let Some(piece) = pieces.next() {
-        whole = ended;
         match piece {
-            Ok(Piece::End(end)) => ended = end.at,
-            Ok(_) => {}
+            Ok(piece) => {
+                whole = ended;
+                ended = end_of(piece, ended);
+            }
             Err(fault) => {
                 return Wholes {
-                    end: whole,
+                    end: ended,
                     fault: Some(fault),
                 };
             }
@@ -39,13 +53,11 @@ fn whole_entries(text: &[u8], at: usize) -> Wholes
     }
 }
 
-/// Returns the offset after the line of a syntax error at or after an offset, or `None` if no line
-/// feed ends it, or if more octets may resolve the error.
-fn line_after(text: &[u8], from: usize, fault: Fault) -> Option<usize>
-    ensures later { IfSome result (λ after. from < after) }
-    ensures within { IfSome result (λ after. after ≤ length text.now) }
+/// Returns the offset after the first line feed at or after an offset, or `None` if none follows.
+fn line_after(text: &[u8], from: usize) -> Option<usize>
+    ensures { EndsLine text.now from result }
 {
-    let mut at = if fault.at < from { from } else { fault.at };
+    let mut at = from;
     'octets: while at < text.len() {
         if text[at] == b'\n' {
             return Some(at + 1);
@@ -57,7 +69,8 @@ fn line_after(text: &[u8], from: usize, fault: Fault) -> Option<usize>
 
 /// Returns the end of the entries and the lines of a text that are whole, whatever follows it.
 fn whole_len(text: &[u8]) -> usize
-    ensures { result ≤ length text.now }
+    ensures whole { EndsWhole text.now result }
+    ensures within { result ≤ length text.now }
 {
     let mut at = 0;
     'lines: loop {
@@ -65,7 +78,7 @@ fn whole_len(text: &[u8]) -> usize
         let Some(fault) = wholes.fault else {
             return wholes.end;
         };
-        let Some(after) = line_after(text, at, fault) else {
+        let Some(after) = line_after(text, fault.at) else {
             return wholes.end;
         };
         at = after;
@@ -77,6 +90,7 @@ fn whole_len(text: &[u8]) -> usize
 /// [`record_next`](crate::records::record_next) continues.
 pub fn entries_len(text: &[u8], whole: &mut usize) -> u32
     ensures status { result ≡ 0 }
+    ensures whole { EndsWhole text.now whole.new }
     ensures within { whole.new ≤ length text.now }
 {
     *whole = whole_len(text);

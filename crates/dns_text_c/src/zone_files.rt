@@ -7,6 +7,7 @@ ghost use Rattle.c_calls.specs.Pieces.{NextPiece};
 ghost use Rattle.c_calls.specs.Places.{MovesPosition, ReportsPosition};
 ghost use Rattle.c_calls.specs.RecordPrinting.{PrintsRecord};
 ghost use Rattle.c_calls.specs.Records.{NextRecord, memory};
+ghost use Rattle.c_calls.specs.WholeEntries.{EndsWhole};
 
 use c_calls::generate::generate_entry;
 use c_calls::kept::{Zone, zone_init, zone_origin};
@@ -96,6 +97,7 @@ pub extern "C" fn dnstext_record_print(
 #[unsafe(no_mangle)]
 pub extern "C" fn dnstext_entries_len(text: &[u8], whole: &mut usize) -> u32
     ensures status { result ≡ 0 }
+    ensures whole { EndsWhole text.now whole.new }
     ensures within { whole.new ≤ length text.now }
 {
     entries_len(text, whole)
