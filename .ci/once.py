@@ -145,6 +145,7 @@ RULES = [
             "test_support/src/refusal.rt": 1,
             "test_api/src/checks.rt": 1,
             "zone_stream/src/cut_error.rt": 1,
+            "zone_parts/src/pass_error.rt": 1,
             "zone_contents/src/error.rt": 1,
             "zone_dnssec/src/hashed.rt": 1,
             "zone_edit/src/edit.rt": 1,

@@ -1,0 +1,4 @@
+mod Follows
+mod HeadReads
+mod HeadSteps
+mod Passes

@@ -1,0 +1,4 @@
+pub mod PartSpans
+pub mod Passing
+mod Rows
+pub mod StateHeads
