@@ -3,8 +3,9 @@
 #![tactic(auto)]
 
 pub mod blocks;
-mod data_buffer;
+pub mod data_buffer;
 pub mod file_lines;
+pub mod file_part;
 pub mod files;
 pub mod generated;
 pub mod include_error;

@@ -1,5 +1,6 @@
 //! An open zone file.
 use crate::blocks::read_block;
+use crate::file_part::{FilePart, PartInput, expect_part};
 use dns_lexer::position::Position;
 use std::alloc::Global;
 use std::fs::File;
@@ -12,6 +13,7 @@ use zone_stream::BlockReader;
 #[derive(Drop)]
 pub enum Input {
     File(File),
+    Part(PartInput),
     Standard,
 }
 
@@ -20,6 +22,7 @@ impl Input {
     pub fn read(&mut self, rt: &HostRuntime, block: &mut [u8]) -> io::Result<usize> {
         match self {
             Input::File(file) => read_block(file, block),
+            Input::Part(input) => input.read(block),
             Input::Standard => read_block(&mut rt.stdin(), block),
         }
     }
@@ -32,6 +35,14 @@ pub struct Includer {
     pub default_ttl: Option<u32>,
     /// Place of the entry that includes it.
     pub place: LocatedOffset,
+}
+
+/// A place up to which lines and columns are counted.
+#[derive(Clone, Copy)]
+pub struct Counted {
+    pub place: LocatedOffset,
+    /// Number of lines of the file before the first octet of its reader.
+    pub lines_before: usize,
 }
 
 /// An open zone file.
@@ -47,6 +58,8 @@ pub struct OpenFile {
     pub reader: BlockReader<Global>,
     /// Place up to which lines and columns are counted, at or before the next entry.
     pub place: LocatedOffset,
+    /// Number of lines before its first octet, if only a part of it is read.
+    lines_before: usize,
     /// The first octets of the file, until it is known whether they are a byte order mark.
     pub head: Vec<u8>,
     /// Whether it is known if these are a byte order mark.
@@ -80,13 +93,10 @@ pub fn place_after(from: LocatedOffset, octets: &[u8]) -> LocatedOffset {
     }
 }
 
-/// Returns the place of an offset at or after the place `from`. Counts the octets between them, or
-/// asks the reader if these are no longer held.
-pub fn place_from(
-    reader: &BlockReader<Global>,
-    from: LocatedOffset,
-    offset: usize,
-) -> LocatedOffset {
+/// Returns the place of an offset at or after a place. Counts the octets between them, or asks the
+/// reader if these are no longer held.
+pub fn place_from(reader: &BlockReader<Global>, counted: Counted, offset: usize) -> LocatedOffset {
+    let from = counted.place;
     if offset == from.at {
         return from;
     }
@@ -94,9 +104,12 @@ pub fn place_from(
     match reader.octets_from(from.at) {
         Some(held) => place_after(from, &held[..count.min(held.len())]),
         None => match reader.position(offset) {
-            Some(position) => LocatedOffset {
+            Some(Position { line, column }) => LocatedOffset {
                 at: offset,
-                position,
+                position: Position {
+                    line: line.saturating_add(counted.lines_before),
+                    column,
+                },
             },
             None => from,
         },
@@ -120,6 +133,7 @@ impl OpenFile {
             input,
             reader: BlockReader::new(alloc, max_entry),
             place: first_place(),
+            lines_before: 0,
             head: Vec::new(alloc),
             is_begun: false,
             is_read: false,
@@ -127,8 +141,41 @@ impl OpenFile {
         }
     }
 
+    /// Returns the file, of which only a part is read, if there is one. No byte order mark is looked for
+    /// after the file's beginning.
+    pub fn at_part(
+        self,
+        rt: &HostRuntime,
+        path: &str,
+        part: Option<FilePart>,
+    ) -> io::Result<OpenFile> {
+        let Some(part) = part else {
+            return Ok(self);
+        };
+        expect_part(rt, path, part)?;
+        let input = match self.input {
+            Input::File(file) => Input::Part(PartInput::new(file, part)?),
+            input => input,
+        };
+        Ok(OpenFile {
+            input,
+            place: part.place(),
+            lines_before: part.lines_before(),
+            is_begun: part.offset > 0,
+            ..self
+        })
+    }
+
+    /// Returns the place up to which lines and columns are counted.
+    pub fn counted(&self) -> Counted {
+        Counted {
+            place: self.place,
+            lines_before: self.lines_before,
+        }
+    }
+
     /// Counts lines and columns up to an offset.
     pub fn count_to(&mut self, offset: usize) {
-        self.place = place_from(&self.reader, self.place, offset);
+        self.place = place_from(&self.reader, self.counted(), offset);
     }
 }

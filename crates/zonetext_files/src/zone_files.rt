@@ -1,11 +1,12 @@
 //! Reads zone files and the files that they include, entry by entry.
 use crate::blocks::BLOCK;
 use crate::data_buffer::DataBuffer;
+use crate::file_part::FilePart;
 use crate::generated::{
     GenerateMode, GenerateOptions, Generated, RejectedDirective, read_of, refusal_at,
 };
 use crate::include_error::IncludeError;
-use crate::open_file::{Includer, Input, OpenFile, place_after, place_from};
+use crate::open_file::{Counted, Includer, Input, OpenFile, place_after, place_from};
 use crate::progress::Progress;
 use crate::root_path::rooted;
 use crate::stop::RunError;
@@ -38,7 +39,7 @@ pub struct Entry<'e> {
     /// Offset of its first octet.
     pub offset: usize,
     /// Place up to which lines and columns are counted, at or before its first octet.
-    counted: LocatedOffset,
+    counted: Counted,
     /// Octets of the file that are held, from its first octet on.
     pub held: &'e [u8],
     /// Its octets. A syntax error of the text ends them. If the entry is too long they are those
@@ -189,17 +190,17 @@ fn add_folders(
 }
 
 /// Opens the first file, and gives it a name for messages.
-fn open_first(rt: &HostRuntime, file: &str, name: &str, max_entry: usize) -> io::Result<OpenFile> {
+fn open_first(rt: &HostRuntime, file: &str, begin: &Begin<'_>) -> io::Result<OpenFile> {
     let alloc = rt.alloc();
-    let name = String::from_str(alloc, name)?;
+    let name = String::from_str(alloc, shown_name(file, begin.stdin_name))?;
     if file == "-" {
         let input = Input::Standard;
-        return Ok(OpenFile::new(alloc, name, String::new(alloc), 0, input, max_entry));
+        return Ok(OpenFile::new(alloc, name, String::new(alloc), 0, input, begin.max_entry));
     }
     let input = Input::File(File::open(rt, file)?);
     // A pipe has no path.
     let full = full_path(rt, file).unwrap_or(String::new(alloc));
-    Ok(OpenFile::new(alloc, name, full, 0, input, max_entry))
+    OpenFile::new(alloc, name, full, 0, input, begin.max_entry).at_part(rt, file, begin.part)
 }
 
 impl<'a> ZoneFiles<'a> {
@@ -210,7 +211,7 @@ impl<'a> ZoneFiles<'a> {
         begin: Begin<'f>,
     ) -> Result<ZoneFiles<'a>, RunError> {
         let alloc = rt.alloc();
-        let first = match open_first(rt, file, begin.name_of(file), begin.max_entry) {
+        let first = match open_first(rt, file, &begin) {
             Ok(first) => first,
             Err(error) => return Err(unread(alloc, file, error)),
         };
@@ -395,7 +396,7 @@ impl<'a> ZoneFiles<'a> {
             file: file.name.as_str(),
             number: file.number,
             offset,
-            counted: file.place,
+            counted: file.counted(),
             held,
             octets: &held[..count],
             reader: &file.reader,
@@ -765,13 +766,8 @@ pub struct Begin<'f> {
     pub stdin_name: Option<&'f str>,
     /// Whether progress is not shown.
     pub is_quiet: bool,
-}
-
-impl<'f> Begin<'f> {
-    /// Returns the name of a file in messages.
-    fn name_of(&self, file: &'f str) -> &'f str {
-        shown_name(file, self.stdin_name)
-    }
+    /// The part of the file that is read, if not all of it is.
+    pub part: Option<FilePart>,
 }
 
 /// Returns the name of a file in messages: standard input may have one.
@@ -789,7 +785,7 @@ pub fn visit_file<'f, V: Visit>(
     begin: Begin<'f>,
     visitor: &mut V,
 ) -> Result<(), RunError> {
-    let (name, is_quiet) = (begin.name_of(file), begin.is_quiet);
+    let (name, is_quiet) = (shown_name(file, begin.stdin_name), begin.is_quiet);
     let mut files = ZoneFiles::open(rt, file, begin)?;
     let mut progress = Progress::new(rt, name, is_quiet)?;
     let answer = files.visit_all(visitor, &mut progress);
