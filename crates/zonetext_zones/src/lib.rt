@@ -9,6 +9,7 @@ mod named_once;
 pub mod named_zones;
 pub mod nsd_zones;
 pub mod options;
+pub mod part_option;
 mod path_patterns;
 pub mod settings;
 pub mod times;

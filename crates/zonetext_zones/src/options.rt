@@ -30,6 +30,10 @@ pub enum Usage<'o> {
         option: &'static str,
         value: &'o str,
     },
+    /// Arguments are missing. The message says which are expected.
+    Arguments {
+        wants: &'static str,
+    },
     /// Signatures must be checked, and no zone is set.
     NoZone,
     /// The name of a file should contain its zone, and does not.
@@ -203,6 +207,10 @@ pub fn status_of(rt: &HostRuntime, answer: Result<u8, Usage<'_>>) -> io::Result<
             eprintln!(rt;
                 "zonetext: {option} {value}: a finding of records, which --text does not look at"
             )?;
+            Ok(USAGE)
+        }
+        Err(Usage::Arguments { wants }) => {
+            eprintln!(rt; "zonetext: wants {wants}")?;
             Ok(USAGE)
         }
         Err(Usage::NoZone) => {
