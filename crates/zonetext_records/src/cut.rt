@@ -1,9 +1,12 @@
 //! The command `cut`: splits a zone file into parts that can be read separately.
+use crate::offsets;
+use crate::offsets::OffsetOptions;
 use crate::visit::{EntryVisitor, Outcome, Reading, visit_entries};
 use rdata_fields::RecordRef;
 use std::alloc::Global;
 use std::fs::metadata;
 use std::io;
+use zone_reader::State;
 use zone_stream::{CutError, Cutter};
 use zonetext_files::part_files::PartFiles;
 use zonetext_files::shown::Shown;
@@ -146,21 +149,31 @@ fn cut(rt: &HostRuntime, file: &str, reading: &Reading<'_>, parter: Parter<'_>) 
     }
 }
 
+/// Returns the number of octets of a file that is cut, or the status if it is not a regular file or can't
+/// be read, which is reported.
+fn size_of(rt: &HostRuntime, file: &str) -> Result<usize, u8> {
+    let name = Shown(file);
+    let _ = match octets_of(rt, file) {
+        Ok(Some(octets)) => return Ok(octets),
+        Ok(None) => eprintln!(rt; "zonetext: {name}: not a regular file"),
+        Err(error) => eprintln!(rt; "zonetext: {name}: {error}"),
+    };
+    Err(EXIT_IO)
+}
+
 /// Cuts a file into parts, and returns the status. If an entry is rejected, or a file is included,
 /// that is reported, and no part is written.
 pub fn run<'p>(rt: &'p HostRuntime, file: &str, reading: &Reading<'_>, work: CutOptions<'p>) -> u8 {
-    let octets = match octets_of(rt, file) {
-        Ok(Some(octets)) => octets,
-        Ok(None) => {
-            let file = Shown(file);
-            let _ = eprintln!(rt; "zonetext: {file}: not a regular file");
-            return EXIT_IO;
-        }
-        Err(error) => {
-            let file = Shown(file);
-            let _ = eprintln!(rt; "zonetext: {file}: {error}");
-            return EXIT_IO;
-        }
-    };
-    cut(rt, file, reading, Parter::new(rt, octets, work))
+    match size_of(rt, file) {
+        Ok(octets) => cut(rt, file, reading, Parter::new(rt, octets, work)),
+        Err(status) => status,
+    }
+}
+
+/// Prints where parts of a file begin, and returns the status.
+pub fn print_offsets(rt: &HostRuntime, file: &str, state: State, options: OffsetOptions) -> u8 {
+    match size_of(rt, file) {
+        Ok(octets) => offsets::run(rt, file, octets, state, options),
+        Err(status) => status,
+    }
 }

@@ -10,6 +10,7 @@ pub mod digest_places;
 pub mod json_records;
 pub mod lowerer;
 mod merging;
+pub mod offsets;
 pub mod records;
 pub mod removals;
 mod run_files;

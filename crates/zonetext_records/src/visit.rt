@@ -10,6 +10,7 @@ use zone_contents::scope::is_apex;
 use zone_format::place::LocatedOffset;
 use zone_reader::{NameBuffer, ParsedEntry, State};
 use zonetext_checker::checker::{Checker, Limits, SoaInfo};
+use zonetext_files::file_part::StatedPart;
 use zonetext_files::generated::{GenerateMode, GenerateOptions, RejectedDirective};
 use zonetext_files::include_error::IncludeError;
 use zonetext_files::shown::Shown;
@@ -53,6 +54,8 @@ pub struct Reading<'o> {
     /// Greatest number of errors that are reported; 0 means all. If rejected entries are written as
     /// comments, all are.
     pub most: usize,
+    /// The part of each file that is read, if not all of it is.
+    pub part: Option<StatedPart>,
 }
 
 impl Reading<'_> {
@@ -185,6 +188,9 @@ fn unsaid_codes(alloc: Global, is_one_class: bool) -> Result<Vec<Code>, AllocErr
 
 /// Returns the state at the beginning of a file.
 fn first_state(reading: &Reading<'_>, file: &str) -> State {
+    if let Some(stated) = &reading.part {
+        return stated.state.copied();
+    }
     let state = State::new(reading.class);
     match reading.zone.origin(file) {
         Some(origin) => state.with_origin(origin),
@@ -213,6 +219,7 @@ fn visit_files<T: EntryVisitor + Drop>(
             root: None,
             stdin_name: None,
             is_quiet: reading.is_quiet,
+            part: reading.part.as_ref().map(|stated| stated.part),
         };
         if let Err(stop) = visit_file(rt, file, begin, giver) {
             let goes_on = matches!(stop, RunError::Read { .. });
