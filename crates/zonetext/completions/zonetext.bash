@@ -17,7 +17,7 @@ _zonetext() {
             COMPREPLY=($(compgen -d -- "$word"))
             return
             ;;
-        --zone | --origin | --within | --now | --max* | --name-form | --memory | --type | --skip-type | --set) return ;;
+        --zone | --origin | --within | --now | --max* | --name-form | --memory | --type | --skip-type | --set | --part | --offsets) return ;;
     esac
     if [ -n "$values" ]; then
         COMPREPLY=($(compgen -W "$values" -- "$word"))
@@ -26,7 +26,7 @@ _zonetext() {
     case ${COMP_WORDS[1]} in
         check)
             options='--text --zone --zone-from-name --include --base --stdin-name --dnssec --within --now --deny --allow --strict'
-            options+=' --root --skip-type --errors-only --summary --baseline --write-baseline'
+            options+=' --root --part --skip-type --errors-only --summary --baseline --write-baseline'
             options+=' --conf --zones --name-form --recursive --max-ttl --max-generate --max-entry --class --format --json --excerpt --max --color --verbose --quiet -v'
             ;;
         canon)
@@ -40,7 +40,7 @@ _zonetext() {
         tokens) options='--json --quiet' ;;
         fmt) options='--write --check --diff --force --quiet -w' ;;
         lines) options='--tabbed --quiet' ;;
-        records) options='--json --max --zone --zone-from-name --class --include --base --max-generate --max-entry --quiet' ;;
+        records) options='--json --max --part --zone --zone-from-name --class --include --base --max-generate --max-entry --quiet' ;;
         digest)
             options='--json --write --hash --force --any --verbose --zone --zone-from-name --class --include --base'
             options+=' --max-generate --max-entry --quiet -w -v'
@@ -49,7 +49,7 @@ _zonetext() {
             options='--json --write --date --unix --increment --set --if-changed --now --force --zone --zone-from-name --class --include --base'
             options+=' --max-generate --max-entry --quiet -w'
             ;;
-        cut) options='--output --soa --zone --zone-from-name --class --max-entry --quiet -o' ;;
+        cut) options='--output --offsets --soa --zone --zone-from-name --class --max-entry --quiet -o' ;;
         expand) options='--max-generate --quiet' ;;
         codes) options='' ;;
         explain)

@@ -92,7 +92,9 @@ complete -c zonetext -n '__fish_seen_subcommand_from serial' -x -l set -d 'This 
 complete -c zonetext -n '__fish_seen_subcommand_from serial' -x -l now -d 'Time for the date, not now'
 complete -c zonetext -n '__fish_seen_subcommand_from serial' -l force -d 'Also write to a zone that a server updates (with a .jnl file)'
 complete -c zonetext -n '__fish_seen_subcommand_from cut' -s o -l output -r -d 'The parts are PREFIX.000, PREFIX.001, and so on'
+complete -c zonetext -n '__fish_seen_subcommand_from cut' -x -l offsets -d 'Print where at most this many parts begin'
 complete -c zonetext -n '__fish_seen_subcommand_from cut' -l soa -d 'Repeat the SOA at the start of each part'
+complete -c zonetext -n '__fish_seen_subcommand_from check records' -x -l part -d 'Read only the part of a line of cut --offsets'
 complete -c zonetext -n '__fish_seen_subcommand_from codes' -f
 complete -c zonetext -n '__fish_seen_subcommand_from explain' -f -a '(zonetext codes | cut -f 1)'
 complete -c zonetext -n '__fish_seen_subcommand_from help' -f -a "$commands"

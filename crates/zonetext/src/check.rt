@@ -12,6 +12,7 @@ use std::{env, io};
 use zone_dnssec::Times;
 use zone_reader::{NameBuffer, State};
 use zonetext_checker::checker::{Checker, Limits};
+use zonetext_files::file_part::StatedPart;
 use zonetext_files::files::check_text;
 use zonetext_files::generated::{GenerateMode, GenerateOptions};
 use zonetext_files::journals::{has_journal, report_journal};
@@ -26,6 +27,7 @@ use zonetext_zones::options::{
     Usage, class_of, max_entry_of, most_generated_of, name_of, number_of, report_no_zone,
     seconds_of,
 };
+use zonetext_zones::part_option::part_of;
 use zonetext_zones::settings::{Settings, Unusable, settings_path};
 use zonetext_zones::times::times_of;
 use zonetext_zones::zone_names::Zone;
@@ -73,6 +75,8 @@ pub struct Options<'o> {
     pub is_many: bool,
     /// Whether warnings are counted, but not shown.
     pub omits_warnings: bool,
+    /// The part of a file that is checked alone, if not all of it is.
+    pub part: Option<&'o StatedPart>,
 }
 
 /// Returns the code that an option names.
@@ -145,13 +149,14 @@ fn form_of<'o>(rt: &HostRuntime, inner: &'o ArgMatches) -> Result<Form, Usage<'o
     }
 }
 
-/// Returns the options of the command line, whose codes are appended to `codes`. `is_many` says that
-/// the command line names many zones.
+/// Returns the options of the command line, whose codes are appended to `codes`, and whose part is `part`.
+/// `is_many` says that the command line names many zones.
 fn options_of<'o>(
     rt: &HostRuntime,
     inner: &'o ArgMatches,
     is_many: bool,
     codes: &'o mut Codes,
+    part: Option<&'o StatedPart>,
 ) -> Result<Options<'o>, Usage<'o>> {
     let most = number_of(inner.get_str("max"), "--max")?;
     let zone = Zone::asked(inner)?;
@@ -203,6 +208,7 @@ fn options_of<'o>(
         is_quiet: inner.get_flag("quiet"),
         is_many: false,
         omits_warnings: inner.get_flag("errors-only"),
+        part,
     })
 }
 
@@ -287,6 +293,7 @@ fn check_entries(
         root: options.root,
         stdin_name: options.stdin_name,
         is_quiet: options.is_quiet,
+        part: options.part.map(|stated| stated.part),
     };
     let read = match visit_file(rt, file, begin, checker) {
         Ok(()) => checker.finish(),
@@ -353,6 +360,27 @@ fn size_of(rt: &HostRuntime, file: &str) -> Option<u64> {
     }
 }
 
+/// Returns the state at the start of reading. Without an origin, the root is appended to relative names.
+fn first_state(class: Class, origin: Option<NameBuffer>) -> State {
+    let state = State::new(class);
+    match origin.or(name_of(".")) {
+        Some(origin) => state.with_origin(origin),
+        None => state,
+    }
+}
+
+/// Returns the part of the command line, if it has one.
+fn stated_part<'o>(
+    rt: &HostRuntime,
+    inner: &'o ArgMatches,
+    files: &[&str],
+) -> Result<Option<StatedPart>, Usage<'o>> {
+    match class_of(inner.get_str("class")) {
+        Ok(class) => part_of(rt.alloc(), inner, files, first_state(class, None)),
+        Err(usage) => Err(usage),
+    }
+}
+
 /// Checks a file, and returns the status.
 fn check_with(
     rt: &HostRuntime,
@@ -378,10 +406,9 @@ fn check_with(
         is_standard: file == "-",
         is_text: options.is_text,
     };
-    let state = State::new(options.class);
-    let state = match options.zone.origin(name).or(name_of(".")) {
-        Some(origin) => state.with_origin(origin),
-        None => state,
+    let state = match options.part {
+        Some(stated) => stated.state.copied(),
+        None => first_state(options.class, options.zone.origin(name)),
     };
     let mut reporter = Reporter::new(rt, policy, options.form, options.most);
     if options.omits_warnings {
@@ -462,7 +489,11 @@ fn check_files(
     codes: &mut Codes,
 ) -> io::Result<u8> {
     let is_many = !inner.get_flag("text") && many_zones::names_many(rt, inner, files);
-    let options = match options_of(rt, inner, is_many, codes) {
+    let part = match stated_part(rt, inner, files) {
+        Ok(part) => part,
+        Err(usage) => return options::status_of(rt, Err(usage)),
+    };
+    let options = match options_of(rt, inner, is_many, codes, part.as_ref()) {
         Ok(options) => options,
         Err(usage) => return options::status_of(rt, Err(usage)),
     };

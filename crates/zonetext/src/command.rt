@@ -20,6 +20,7 @@ use zonetext_zones::arguments::{
     command_of,
 };
 use zonetext_zones::options::USAGE;
+use zonetext_zones::part_option::PART;
 use zonetext_zones::zone_names::{ZONE, ZONE_FROM_NAME};
 
 /// The options of `check` about records, which conflict with `--text`.
@@ -42,6 +43,18 @@ const OF_RECORDS: [&str; 16] = [
     "verbose",
 ];
 
+/// The options of `check` about whole files and zones, which conflict with `--part`.
+const OF_WHOLE_ZONES: [&str; 8] = [
+    "text",
+    "zone",
+    "zone-from-name",
+    "conf",
+    "zones",
+    "name-form",
+    "recursive",
+    "dnssec",
+];
+
 /// The argument and the option of `check`, which also checks folders.
 const OVER_FOLDERS: [ArgRow; 2] = [
     ArgRow {
@@ -56,7 +69,7 @@ const OVER_FOLDERS: [ArgRow; 2] = [
 ];
 
 /// The options of `check` about zones and files.
-const OF_CHECK: [ArgRow; 6] = [
+const OF_CHECK: [ArgRow; 7] = [
     ArgRow {
         name: "text",
         help: "check the syntax alone, not the records",
@@ -76,6 +89,10 @@ const OF_CHECK: [ArgRow; 6] = [
         ..REPEATED
     },
     BASE,
+    ArgRow {
+        conflicts: &OF_WHOLE_ZONES,
+        ..PART
+    },
     ArgRow {
         name: "stdin-name",
         value_name: &["NAME"],

@@ -1,9 +1,12 @@
 //! The arguments of the command `cut`.
 use crate::record_args::CLASS;
 use clap::ArgMatches;
+use rdata_values::Class;
 use std::io;
+use zone_reader::State;
 use zonetext_files::generated::{GenerateMode, GenerateOptions};
 use zonetext_records::cut;
+use zonetext_records::offsets::OffsetOptions;
 use zonetext_records::visit::{MOST_ERRORS, Reading};
 use zonetext_zones::arguments::{ARGUMENT, ArgRow, CommandTable, FLAG, MAX_ENTRY, QUIET, VALUED};
 use zonetext_zones::options::{Usage, class_of, max_entry_of, status_of};
@@ -13,16 +16,17 @@ use zonetext_zones::zone_names::{ZONE, ZONE_FROM_NAME, zone_of_files};
 pub const CUT: CommandTable = CommandTable {
     name: "cut",
     about: "Split a zone file into parts that can be read separately",
-    example: "Example: zonetext cut 8 example.org.zone -o part",
+    example: "Examples: zonetext cut 8 example.org.zone -o part\n          zonetext cut --offsets 8 --zone example.org. example.org.zone",
     groups: &[&[
         ArgRow {
             name: "N",
-            help: "maximum number of parts",
+            help: "maximum number of parts; with --offsets, the zone file",
             ..ARGUMENT
         },
         ArgRow {
             name: "FILE",
             help: "a zone file",
+            is_required: false,
             ..ARGUMENT
         },
         ArgRow {
@@ -30,7 +34,13 @@ pub const CUT: CommandTable = CommandTable {
             short: Some('o'),
             value_name: &["PREFIX"],
             help: "the parts are PREFIX.000, PREFIX.001, and so on",
-            is_required: true,
+            ..VALUED
+        },
+        ArgRow {
+            name: "offsets",
+            value_name: &["N"],
+            help: "print where at most N parts begin, as lines for\n--part, and copy nothing",
+            conflicts: &["output", "soa"],
             ..VALUED
         },
         ArgRow {
@@ -53,30 +63,39 @@ pub const CUT: CommandTable = CommandTable {
     ]],
 };
 
-/// Returns the number of parts that is asked for.
-fn count_of<'o>(value: &'o str) -> Result<usize, Usage<'o>> {
+/// Returns the number of parts that is asked for, by an option or an argument.
+fn count_of<'o>(option: &'static str, value: &'o str) -> Result<usize, Usage<'o>> {
     match value.parse::<usize>() {
         Ok(count) if count > 0 => Ok(count),
         _ => Err(Usage::Value {
-            option: "N",
+            option,
             value,
             wants: "a number from 1 on",
         }),
     }
 }
 
+/// Returns the class of the command.
+fn class_in<'o>(inner: &'o ArgMatches) -> Result<Class, Usage<'o>> {
+    match class_of(inner.get_str("class")) {
+        Ok(class) => Ok(class),
+        Err(usage) => Err(usage),
+    }
+}
+
 /// Cuts a file by the arguments.
-fn cut_by<'o>(rt: &HostRuntime, inner: &'o ArgMatches) -> Result<u8, Usage<'o>> {
+fn cut_by<'o>(
+    rt: &HostRuntime,
+    inner: &'o ArgMatches,
+    count: &'o str,
+    file: &'o str,
+    prefix: &'o str,
+) -> Result<u8, Usage<'o>> {
     let base: Option<&'o str> = None;
-    let file = inner.get_str("FILE").unwrap_or("-");
     let zone = zone_of_files(inner, &[file], true)?;
-    let class = match class_of(inner.get_str("class")) {
-        Ok(class) => class,
-        Err(usage) => return Err(usage),
-    };
     let reading = Reading {
         zone,
-        class,
+        class: class_in(inner)?,
         is_one_class: false,
         includes: false,
         max_entry: max_entry_of(inner)?,
@@ -90,16 +109,52 @@ fn cut_by<'o>(rt: &HostRuntime, inner: &'o ArgMatches) -> Result<u8, Usage<'o>> 
             most: 0,
         },
         most: MOST_ERRORS,
+        part: None,
     };
     let work = cut::CutOptions {
-        count: count_of(inner.get_str("N").unwrap_or(""))?,
-        prefix: inner.get_str("output").unwrap_or("part"),
+        count: count_of("N", count)?,
+        prefix,
         repeats_soa: inner.get_flag("soa"),
     };
     Ok(cut::run(rt, file, &reading, work))
 }
 
+/// Prints where parts of a file begin, by the arguments.
+fn print_offsets<'o>(
+    rt: &HostRuntime,
+    inner: &'o ArgMatches,
+    count: &'o str,
+    file: &'o str,
+) -> Result<u8, Usage<'o>> {
+    let zone = zone_of_files(inner, &[file], true)?;
+    let state = State::new(class_in(inner)?);
+    let state = match zone.origin(file) {
+        Some(origin) => state.with_origin(origin),
+        None => state,
+    };
+    let options = OffsetOptions {
+        count: count_of("--offsets", count)?,
+        max_entry: max_entry_of(inner)?,
+        is_quiet: inner.get_flag("quiet"),
+    };
+    Ok(cut::print_offsets(rt, file, state, options))
+}
+
+/// Runs the command by its arguments: `N FILE -o PREFIX`, or `--offsets N FILE`, whose file is the first
+/// argument.
+fn run_by<'o>(rt: &HostRuntime, inner: &'o ArgMatches) -> Result<u8, Usage<'o>> {
+    let first: &'o str = inner.get_str("N").unwrap_or("");
+    let second = inner.get_str("FILE");
+    match (inner.get_str("offsets"), second, inner.get_str("output")) {
+        (Some(count), None, None) => print_offsets(rt, inner, count, first),
+        (None, Some(file), Some(prefix)) => cut_by(rt, inner, first, file, prefix),
+        _ => Err(Usage::Arguments {
+            wants: "cut N FILE -o PREFIX, or cut --offsets N FILE",
+        }),
+    }
+}
+
 /// Runs the command `cut`, and returns the status.
 pub fn run_cut(rt: &HostRuntime, inner: &ArgMatches) -> io::Result<u8> {
-    status_of(rt, cut_by(rt, inner))
+    status_of(rt, run_by(rt, inner))
 }

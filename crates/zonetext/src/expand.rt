@@ -195,6 +195,7 @@ fn run<'o>(rt: &HostRuntime, inner: &'o ArgMatches) -> Result<u8, Usage<'o>> {
             most: most_generated_of(inner)?,
         },
         most: MOST_ERRORS,
+        part: None,
     };
     let file = inner.get_str("FILE").unwrap_or("-");
     if !is_regular(rt, file) {

@@ -307,6 +307,7 @@ fn check_source(
         is_quiet: options.is_quiet,
         is_many: true,
         omits_warnings: options.omits_warnings,
+        part: None,
     };
     check_argument(rt, source.file.as_str(), &own, totals)
 }

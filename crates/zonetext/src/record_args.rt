@@ -5,6 +5,7 @@ use rdata_values::RecordType;
 use std::alloc::{AllocError, Global};
 use std::io;
 use zone_contents::HashAlgorithm;
+use zone_reader::State;
 use zone_set::Selection;
 use zonetext_edit::{digest, digest_writing};
 use zonetext_files::generated::{GenerateMode, GenerateOptions};
@@ -19,6 +20,7 @@ use zonetext_zones::arguments::{
 use zonetext_zones::options::{
     Usage, class_of, max_entry_of, most_generated_of, number_of, size_of, status_of,
 };
+use zonetext_zones::part_option::{PART, part_of};
 use zonetext_zones::zone_names::{ZONE, ZONE_FROM_NAME, Zone, zone_of_files};
 
 /// The option for the class.
@@ -81,6 +83,10 @@ pub const RECORDS: CommandTable = CommandTable {
                 value_name: &["N"],
                 help: "print at most N errors, 0 for all (default 20)",
                 ..VALUED
+            },
+            ArgRow {
+                conflicts: &["zone", "zone-from-name"],
+                ..PART
             },
         ],
         &READING,
@@ -320,6 +326,7 @@ pub fn reading_with<'o>(
             most: most_generated_of(inner)?,
         },
         most: MOST_ERRORS,
+        part: None,
     })
 }
 
@@ -337,20 +344,30 @@ fn lenient(reading: Reading<'_>) -> Reading<'_> {
 }
 
 /// Returns how files are read if their records are written as they come.
-fn listing_of<'o>(inner: &'o ArgMatches, files: &[&'o str]) -> Result<Reading<'o>, Usage<'o>> {
+fn listing_of<'o>(
+    alloc: Global,
+    inner: &'o ArgMatches,
+    files: &[&'o str],
+) -> Result<Reading<'o>, Usage<'o>> {
     let most = match number_of(inner.get_str("max"), "--max")? {
         Some(most) => most as usize,
         None => MOST_ERRORS,
     };
-    match reading_of(inner, files, false) {
-        Ok(reading) => Ok(Reading { most, ..reading }),
-        Err(usage) => Err(usage),
-    }
+    let reading = match reading_of(inner, files, false) {
+        Ok(reading) => reading,
+        Err(usage) => return Err(usage),
+    };
+    let part = part_of(alloc, inner, files, State::new(reading.class))?;
+    Ok(Reading {
+        most,
+        part,
+        ..reading
+    })
 }
 
 /// Writes the records of files as they come.
 fn list<'o>(rt: &HostRuntime, inner: &'o ArgMatches, files: &[&'o str]) -> Result<u8, Usage<'o>> {
-    match listing_of(inner, files) {
+    match listing_of(rt.alloc(), inner, files) {
         Ok(reading) if inner.get_flag("json") => Ok(json_records::run(rt, files, &reading)),
         Ok(reading) => Ok(records::run(rt, files, &reading)),
         Err(usage) => Err(usage),
