@@ -22,7 +22,7 @@ use Rattle.zone_reader.specs.declared.state.State.{State}
 use Rattle.zone_reader.proofs.Learned.{owner_learned}
 use Rattle.zone_reader.proofs.PastStates.{known_once, starts}
 use Rattle.zone_reader.proofs.WordLemmas.{apart, ttl_once}
-use Rattle.zone_parts.specs.Passing.{FindsNext, FindsTtl, LeavesAlways, NamesNext, begins_directive, knows_ttl}
+use Rattle.zone_parts.specs.Passing.{FindsNextWord, FindsTtl, LeavesAlways, NamesNext, begins_directive, knows_ttl}
 
 none_is : {X : Type 0} (o : Option X) → is_some o ≡ false → o ≡ None
 none_is None h = refl
@@ -42,7 +42,7 @@ owner_next before (t ∷ ts) name h some = owner_learned before (Some t) name (h
 
 -- ---- the next token
 
-pub next_found : (Says : TokenSeen → ℕ → Type 0) (tokens : List TokenSeen) (t : TokenSeen) (found : Option ℕ) → Some t ≡ slice_get tokens 0 → FindsWord Says t found → FindsNext Says tokens found
+pub next_found : (Says : TokenSeen → ℕ → Type 0) (tokens : List TokenSeen) (t : TokenSeen) (found : Option ℕ) → Some t ≡ slice_get tokens 0 → FindsWord Says t found → FindsNextWord Says tokens found
 next_found Says [] t found e h = absurd (none-some t (sym e))
 next_found Says (u ∷ us) t found e h = let same : u ≡ t = cc in subst (λ x. FindsWord Says x found) (sym same) h
 
@@ -59,7 +59,7 @@ record_said false end (t ∷ ts) m some plain h = subst (λ d. FirstTokenMeans d
 
 -- ---- the TTL of a record is the one that is found
 
-no_next : (rest : List TokenSeen) (found : Option ℕ) → NoneNext TokenIsTtl rest → FindsNext TokenIsTtl rest found → found ≡ None
+no_next : (rest : List TokenSeen) (found : Option ℕ) → NoneNext TokenIsTtl rest → FindsNextWord TokenIsTtl rest found → found ≡ None
 no_next [] found none f = f
 no_next (t ∷ ts) None none f = refl
 no_next (t ∷ ts) (Some n) none f = absurd (none n f)

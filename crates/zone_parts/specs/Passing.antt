@@ -22,9 +22,9 @@ abbrev pub begins_directive : Bool → List TokenSeen → Bool
 begins_directive blank tokens = is_some (first_directive blank tokens)
 
 -- the value that the next token spells, if it spells one of this kind
-abbrev pub FindsNext : (TokenSeen → ℕ → Type 0) → List TokenSeen → Option ℕ → Type 0
-FindsNext Says [] found = found ≡ None
-FindsNext Says (t ∷ ts) found = FindsWord Says t found
+abbrev pub FindsNextWord : (TokenSeen → ℕ → Type 0) → List TokenSeen → Option ℕ → Type 0
+FindsNextWord Says [] found = found ≡ None
+FindsNextWord Says (t ∷ ts) found = FindsWord Says t found
 
 abbrev pub IsClassNext : List TokenSeen → Type 0
 IsClassNext [] = ⊥
@@ -33,9 +33,9 @@ IsClassNext (t ∷ ts) = (class : ℕ) × TokenIsClass t class
 -- the TTL of a record by the tokens after its owner: the first spells it, or the first spells no TTL but a class, and the second spells it; or there is none
 abbrev pub FindsTtl : List TokenSeen → Option ℕ → Type 0
 FindsTtl tokens found =
-    ((ttl : ℕ) × FindsNext TokenIsTtl tokens (Some ttl) × (found ≡ Some ttl))
-    ⊎ (FindsNext TokenIsTtl tokens None × (IsClassNext tokens → ⊥) × (found ≡ None))
-    ⊎ (FindsNext TokenIsTtl tokens None × IsClassNext tokens × FindsNext TokenIsTtl (drop 1 tokens) found)
+    ((ttl : ℕ) × FindsNextWord TokenIsTtl tokens (Some ttl) × (found ≡ Some ttl))
+    ⊎ (FindsNextWord TokenIsTtl tokens None × (IsClassNext tokens → ⊥) × (found ≡ None))
+    ⊎ (FindsNextWord TokenIsTtl tokens None × IsClassNext tokens × FindsNextWord TokenIsTtl (drop 1 tokens) found)
 
 -- a name that is parsed, if a token is there: the one that it spells, or rejected
 abbrev pub NamesNext : Option (List (List ℕ)) → List TokenSeen → NameState → Type 0
@@ -55,6 +55,6 @@ LeavesAlways blank end tokens before after =
     (room : Room) (old new : List ℕ) (result : Result ParsedEntry RecordError) (other : State) → ReadsZoneEntry room blank end tokens before old result other new → other ≡ after
 
 -- An entry is passed. Either it was read, and left the state; or it is a record, and any reading of it leaves the state.
-pub data PassesEntry (room : Room) (blank : Bool) (end : ℕ) (tokens : List TokenSeen) (before : State) (old : List ℕ) (result : Result (Unit {0}) PassError) (after : State) (new : List ℕ) : Type 0 where
-  was_read : (read : Result ParsedEntry RecordError) → ReadsZoneEntry room blank end tokens before old read after new → result ≡ outcome (begins_directive blank tokens) read → PassesEntry room blank end tokens before old result after new
-  was_passed : begins_directive blank tokens ≡ false → LeavesAlways blank end tokens before after → result ≡ Ok tt → new ≡ old → PassesEntry room blank end tokens before old result after new
+pub data PassesZoneEntry (room : Room) (blank : Bool) (end : ℕ) (tokens : List TokenSeen) (before : State) (old : List ℕ) (result : Result (Unit {0}) PassError) (after : State) (new : List ℕ) : Type 0 where
+  was_read : (read : Result ParsedEntry RecordError) → ReadsZoneEntry room blank end tokens before old read after new → result ≡ outcome (begins_directive blank tokens) read → PassesZoneEntry room blank end tokens before old result after new
+  was_passed : begins_directive blank tokens ≡ false → LeavesAlways blank end tokens before after → result ≡ Ok tt → new ≡ old → PassesZoneEntry room blank end tokens before old result after new

@@ -61,7 +61,8 @@ impl PartFinder {
         ensures ends { EndsPart self.old.began result at }
         ensures began { self.new.began ≡ at }
         ensures state { self.new.state ≡ self.old.state }
-        ensures shares { MayBegin self.old.shares at → BeginsShare self.old.shares at self.new.shares }
+        ensures shares { MayBegin self.old.shares at
+            → BeginsShare self.old.shares at self.new.shares }
     {
         let count = self.len_to(at);
         if self.shares.may_begin(at) {

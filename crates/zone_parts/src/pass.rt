@@ -5,7 +5,7 @@ ghost use Rattle.zone_reader.specs.EntryReading.{explicit_ttl_of, owner_of_recor
 ghost use Rattle.zone_reader.specs.EntrySteps.{owner_token, tokens_after_owner};
 ghost use Rattle.zone_reader.specs.HeaderWords.{TokenIsTtl};
 ghost use Rattle.zone_reader.specs.Learning.{Updates};
-ghost use Rattle.zone_parts.specs.Passing.{FindsNext, FindsTtl, IsClassNext, LeavesAlways, NamesNext, PassesEntry, begins_directive, knows_ttl, outcome};
+ghost use Rattle.zone_parts.specs.Passing.{FindsNextWord, FindsTtl, IsClassNext, LeavesAlways, NamesNext, PassesZoneEntry, begins_directive, knows_ttl, outcome};
 
 use crate::pass_error::PassError;
 use arrayvec::ArrayVec;
@@ -59,7 +59,9 @@ fn parse_owner<S: TokenSource>(origin: Option<&NameBuffer>, source: &mut S) -> N
 fn pass_owner<S: TokenSource>(state: &mut State, begins_blank: bool, source: &mut S)
     ensures left { S.left source.new ≡ tokens_after_owner begins_blank (S.left source.old) }
     ensures state { state.new ≡ record state.old { owner = state.new.owner } }
-    ensures learns { S.left source.old ≢ [] → Updates (owner_of_record (owner_token begins_blank (S.left source.old))) state.old state.new }
+    ensures learns { S.left source.old ≢ []
+        → Updates (owner_of_record (owner_token begins_blank (S.left source.old)))
+        state.old state.new }
     ensures end { S.end source.new ≡ S.end source.old }
 {
     if begins_blank {
@@ -70,7 +72,7 @@ fn pass_owner<S: TokenSource>(state: &mut State, begins_blank: bool, source: &mu
 
 /// Parses the next token as a TTL, if it is one. It is not skipped.
 fn next_ttl<S: TokenSource>(source: &S) -> Option<u32>
-    ensures { FindsNext TokenIsTtl (S.left source.now) result }
+    ensures { FindsNextWord TokenIsTtl (S.left source.now) result }
 {
     match source.current() {
         Some(token) => ttl_word(&token),
@@ -118,7 +120,8 @@ fn pass_record<S: TokenSource>(state: &mut State, begins_blank: bool, source: &m
     requires some { S.left source.old ≢ [] }
     requires plain { begins_directive begins_blank (S.left source.old) ≡ false }
     requires knows { knows_ttl state.old ≡ true }
-    ensures leaves { LeavesAlways begins_blank (S.end source.old).at (S.left source.old) state.old state.new }
+    ensures leaves { LeavesAlways begins_blank (S.end source.old).at (S.left source.old)
+        state.old state.new }
     ensures end { S.end source.new ≡ S.end source.old }
 {
     pass_owner(state, begins_blank, source);
@@ -149,7 +152,8 @@ pub fn pass_entry<S: TokenSource, B: OctetsBuilder + AsOctetsMut>(
     source: &mut S,
     target: &mut B,
 ) -> Result<(), PassError>
-    ensures passes { PassesEntry B.room begins_blank (S.end source.old).at (S.left source.old) state.old (B.octets target.old) result state.new (B.octets target.new) }
+    ensures passes { PassesZoneEntry B.room begins_blank (S.end source.old).at
+        (S.left source.old) state.old (B.octets target.old) result state.new (B.octets target.new) }
     ensures end { S.end source.new ≡ S.end source.old }
 {
     let is_directive = is_directive(begins_blank, source);
