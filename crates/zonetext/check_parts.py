@@ -134,7 +134,7 @@ def random_zones(seed):
         made += len(parts)
         spans = [list(map(int, part.split('\t')[:3])) for part in parts]
         octets = text.encode('latin-1')
-        same(f'{title}: at most so many', len(parts) <= count, True)
+        same(f'{title}: at most that number', len(parts) <= count, True)
         same(f'{title}: one follows the other', [at for at, _, _ in spans], [sum(n for _, n, _ in spans[:i]) for i in range(len(spans))])
         same(f'{title}: they are the whole', sum(n for _, n, _ in spans), len(octets))
         same(f'{title}: lines', [line for _, _, line in spans], [octets.count(b'\n', 0, at) + 1 for at, _, _ in spans])
@@ -235,7 +235,7 @@ def of_parallel():
 
 
 def large():
-    """32 MB in 16 MB of address space, in few parts and in as many as there are entries."""
+    """32 MB in 16 MB of address space, in few parts, and in one for each entry."""
     line = b'h%d.example.com. 3600 IN A 192.0.2.1\n'
     with open('large', 'wb') as file:
         for number in range(200):

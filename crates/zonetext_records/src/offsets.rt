@@ -302,7 +302,7 @@ impl<'f> OffsetFinder<'f> {
     /// Passes over a byte order mark.
     fn pass_mark(&mut self) -> Result<(), Stop> {
         match order_mark_len(self.held.rest()) {
-            2 => Err(self.refuse(0, "UTF-16, which is no zone file")),
+            2 => Err(self.refuse(0, "UTF-16, not a zone file")),
             count => {
                 self.held.next = count.min(self.held.octets.len());
                 Ok(())

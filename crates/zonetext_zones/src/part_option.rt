@@ -38,7 +38,7 @@ fn stated_part(alloc: Global, text: &str, state: State) -> Result<Option<StatedP
 }
 
 /// Returns the part of the option, if it is set. `files` are those of the command, and `state` is the state at
-/// the start of reading. Fails if the line is none of `cut --offsets`, or there isn't one file.
+/// the start of reading. Fails if `cut --offsets` doesn't print such a line, or there isn't one file.
 pub fn part_of<'o>(
     alloc: Global,
     inner: &'o ArgMatches,
