@@ -2,6 +2,7 @@
 use Rattle.std.specs.Prelude.{◌≡◌, true, false, [], ◌∷◌, codes, Some, None, refl}
 use Rattle.std.specs.Str.{chars}
 use Rattle.strsim.specs.Edits.{cost_at, osa_from, osa_row}
+use Rattle.finding_texts.specs.Ascii.{is_listed_letter, may_be_in_label}
 use Rattle.finding_texts.specs.Mistakes.{count_spelled, foreign_mark, high_escape, quotation_mark, spelled_after}
 use Rattle.finding_texts.specs.Similar.{edits_between, is_similar}
 use Rattle.finding_texts.specs.Word.{word_octet}
@@ -70,3 +71,12 @@ mixed_up = refl
 other_type : is_similar (codes "TXT") (codes "MX") ≡ false
 unfolding chars osa_from osa_row cost_at
 other_type = refl
+
+middle_dot : is_listed_letter 183 ≡ true
+middle_dot = refl
+
+en_dash : is_listed_letter 8211 ≡ false
+en_dash = refl
+
+plain_hyphen : may_be_in_label 45 ≡ true
+plain_hyphen = refl
