@@ -1,9 +1,12 @@
 //! The command `check`: reports what is wrong with zone files.
+use crate::unread::{UnreadFile, report_unread};
 use crate::{baseline_file, many_zones};
 use clap::ArgMatches;
 use dns_wire::DisplayWithDot;
 use finding_codes::code::Code;
 use finding_codes::policy::Policy;
+use finding_codes::table::rows;
+use finding_texts::similar::edits_between;
 use rdata_values::Class;
 use std::alloc::{AllocError, Global};
 use std::fs::metadata;
@@ -17,11 +20,12 @@ use zonetext_files::files::check_text;
 use zonetext_files::generated::{GenerateMode, GenerateOptions};
 use zonetext_files::journals::{has_journal, report_journal};
 use zonetext_files::shown::Shown;
-use zonetext_files::stop::{RunError, exit_status};
+use zonetext_files::stop::{EXIT_IO, RunError, exit_status};
 use zonetext_files::zone_files::{Begin, shown_name, visit_file};
 use zonetext_findings::machine;
 use zonetext_findings::reporter::{Form, Reporter};
 use zonetext_findings::totals::Totals;
+use zonetext_zones::file_places::FilePlace;
 use zonetext_zones::options;
 use zonetext_zones::options::{
     Usage, class_of, max_entry_of, most_generated_of, name_of, number_of, report_no_zone,
@@ -31,6 +35,7 @@ use zonetext_zones::part_option::part_of;
 use zonetext_zones::settings::{Settings, Unusable, settings_path};
 use zonetext_zones::times::times_of;
 use zonetext_zones::zone_names::Zone;
+use zonetext_zones::zone_sources::HostNameCheck;
 
 /// Number of findings that are shown as lines, unless another number is asked for.
 const MOST: usize = 20;
@@ -49,8 +54,8 @@ pub struct Options<'o> {
     pub most: usize,
     pub denied: &'o [Code],
     pub allowed: &'o [Code],
-    /// Whether names that must be host names are errors if they are not.
-    pub needs_host_names: bool,
+    /// What the server does with names of hosts that are not host names.
+    pub host_names: HostNameCheck,
     pub is_strict: bool,
     pub class: Class,
     pub max_ttl: Option<u32>,
@@ -77,13 +82,44 @@ pub struct Options<'o> {
     pub omits_warnings: bool,
     /// The part of a file that is checked alone, if not all of it is.
     pub part: Option<&'o StatedPart>,
+    /// Where a configuration or a list names the file, if one does.
+    pub file_place: Option<&'o FilePlace>,
+}
+
+/// Returns the name of the code to which the fewest edits lead from a word, if they are few.
+fn near_code(alloc: Global, word: &str) -> Result<Option<&'static str>, AllocError> {
+    let mut best: Option<(usize, &'static str)> = None;
+    for row in rows() {
+        let Some(edits) = edits_between(alloc, word, row.name)? else {
+            continue;
+        };
+        if best.is_none_or(|(least, _)| edits < least) {
+            best = Some((edits, row.name));
+        }
+    }
+    Ok(best.map(|(_, name)| name))
 }
 
 /// Returns the code that an option names.
-fn code_of<'o>(value: &'o str, option: &'static str, is_text: bool) -> Result<Code, Usage<'o>> {
+fn code_of<'o>(
+    alloc: Global,
+    value: &'o str,
+    option: &'static str,
+    is_text: bool,
+) -> Result<Code, Usage<'o>> {
     match Code::named(value) {
-        Some(code) if is_text && !code.is_of_text() => Err(Usage::OfRecords { option, value }),
-        Some(code) => Ok(code),
+        Some(code) if is_text && !code.is_of_text() => {
+            return Err(Usage::OfRecords { option, value });
+        }
+        Some(code) => return Ok(code),
+        None => {}
+    }
+    match near_code(alloc, value)? {
+        Some(near) => Err(Usage::NearCode {
+            option,
+            value,
+            near,
+        }),
         None => Err(Usage::Value {
             option,
             value,
@@ -100,7 +136,7 @@ fn push_codes<'o>(
     is_text: bool,
 ) -> Result<(), Usage<'o>> {
     for name in names {
-        let code = code_of(name, option, is_text)?;
+        let code = code_of(*codes.allocator(), name, option, is_text)?;
         codes.push(code).map_err(AllocError::from)?;
     }
     Ok(())
@@ -179,7 +215,7 @@ fn options_of<'o>(
         },
         denied: codes.denied.as_slice(),
         allowed: codes.allowed.as_slice(),
-        needs_host_names: false,
+        host_names: HostNameCheck::Loads,
         is_strict: inner.get_flag("strict"),
         class,
         max_ttl: seconds_of(inner.get_str("max-ttl"), "--max-ttl")?,
@@ -209,6 +245,7 @@ fn options_of<'o>(
         is_many: false,
         omits_warnings: inner.get_flag("errors-only"),
         part,
+        file_place: None,
     })
 }
 
@@ -242,8 +279,10 @@ fn settings_of(rt: &HostRuntime, path: &str, options: &Options) -> Result<Settin
     let mut settings = Settings::read(rt, path)?;
     settings.allowed.extend_from_slice(options.allowed)?;
     settings.denied.extend_from_slice(options.denied)?;
-    if options.needs_host_names {
-        settings.denied.push(Code::HostName)?;
+    match options.host_names {
+        HostNameCheck::Loads => {}
+        HostNameCheck::Rejects => settings.denied.push(Code::HostName)?,
+        HostNameCheck::Ignores => settings.allowed.push(Code::HostName)?,
     }
     settings.max_ttl = options.max_ttl.or(settings.max_ttl);
     for folder in options.folders {
@@ -273,7 +312,7 @@ fn lacks_zone(options: &Options, checker: &Checker) -> bool {
     shows_lines && !options.is_text && !options.zone.is_set() && checker.seen.is_some()
 }
 
-/// Checks a file, and reports the findings.
+/// Checks a file, and reports the findings. Returns whether it can be read.
 fn check_entries(
     rt: &HostRuntime,
     file: &str,
@@ -281,7 +320,7 @@ fn check_entries(
     settings: &Settings,
     checker: &mut Checker,
     state: State,
-) -> Result<(), RunError> {
+) -> Result<bool, RunError> {
     let folders = paths_of(rt.alloc(), settings.folders.as_slice())?;
     let begin = Begin {
         includes: !options.is_text,
@@ -295,16 +334,17 @@ fn check_entries(
         is_quiet: options.is_quiet,
         part: options.part.map(|stated| stated.part),
     };
+    let name = shown_name(file, options.stdin_name);
     let read = match visit_file(rt, file, begin, checker) {
-        Ok(()) => checker.finish(),
-        Err(stop) => Err(stop),
+        Ok(()) => checker.finish().map(|_| true),
+        Err(stop) => {
+            let reporter = &mut checker.findings.reporter;
+            report_unread(rt, reporter, UnreadFile::new(file, name, options), stop)
+        }
     };
     checker.findings.reporter.flush()?;
-    if let Err(stop) = read {
-        return Err(stop);
-    }
+    let is_read = read?;
     if options.is_many {
-        let name = shown_name(file, options.stdin_name);
         let reporter = &checker.findings.reporter;
         many_zones::begin_summary(rt, name, options.zone, reporter, options.form)?;
     }
@@ -312,11 +352,10 @@ fn check_entries(
     if rt.stderr().is_terminal() && lacks_zone(options, checker) {
         eprintln!(rt; "rules of the zone not checked: --zone ORIGIN or --zone-from-name")?;
     }
-    if options.is_verbose {
-        let name = shown_name(file, options.stdin_name);
+    if options.is_verbose && is_read {
         report_zone(rt, name, checker, options.form)?;
     }
-    Ok(())
+    Ok(is_read)
 }
 
 /// Checks a file with the settings of its folder, and returns the status.
@@ -432,9 +471,10 @@ fn check_with(
     let checked = check_entries(rt, file, options, settings, &mut checker, state);
     let ended = checker.findings.reporter.end_file();
     totals.add(&mut checker.findings.reporter);
-    match checked.and(ended) {
-        Ok(()) => checker.findings.reporter.tally.status(),
-        Err(stop) => exit_status(rt, name, stop),
+    match (checked, ended) {
+        (Ok(true), Ok(())) => checker.findings.reporter.tally.status(),
+        (Ok(false), Ok(())) => EXIT_IO,
+        (Err(stop), _) | (_, Err(stop)) => exit_status(rt, name, stop),
     }
 }
 

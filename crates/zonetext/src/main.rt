@@ -10,6 +10,7 @@ mod expand;
 mod many_zones;
 mod record_args;
 mod serial_args;
+mod unread;
 
 use std::process::ExitCode;
 use std::{env, io};

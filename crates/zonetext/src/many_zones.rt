@@ -15,7 +15,9 @@ use zonetext_zones::nsd_zones::add_nsd;
 use zonetext_zones::options::{USAGE, Usage};
 use zonetext_zones::zone_folders::{FORMS, FolderOptions, add_folder};
 use zonetext_zones::zone_names::Zone;
-use zonetext_zones::zone_sources::{SourceError, Sources, ZoneSource, refuse_knot, text_of_file};
+use zonetext_zones::zone_sources::{
+    HostNameCheck, SourceError, Sources, ZoneSource, refuse_knot, text_of_file,
+};
 
 /// Returns whether a path is that of a folder. `-` is standard input.
 fn is_folder(rt: &HostRuntime, path: &str) -> bool {
@@ -82,7 +84,8 @@ fn add_file(alloc: Global, file: &str, sources: &mut Sources) -> Result<(), Sour
         class: None,
         base: None,
         max_ttl: None,
-        needs_host_names: false,
+        host_names: HostNameCheck::Loads,
+        file_place: None,
     })?;
     Ok(())
 }
@@ -289,7 +292,7 @@ fn check_source(
         most: options.most,
         denied: options.denied,
         allowed: options.allowed,
-        needs_host_names: source.needs_host_names,
+        host_names: source.host_names,
         is_strict: options.is_strict,
         class: source.class.unwrap_or(options.class),
         max_ttl: options.max_ttl.or(source.max_ttl),
@@ -308,6 +311,7 @@ fn check_source(
         is_many: true,
         omits_warnings: options.omits_warnings,
         part: None,
+        file_place: source.file_place.as_ref(),
     };
     check_argument(rt, source.file.as_str(), &own, totals)
 }

@@ -663,7 +663,7 @@ impl<'a> ZoneFiles<'a> {
     fn open_included(&self, file: &OpenFile, name: String) -> Result<OpenFile, IncludeError> {
         let full = full_path(self.rt, name.as_str())?;
         if !self.is_allowed(full.as_str()) {
-            return Err(IncludeError::Reason("file outside of the folders that are open to it"));
+            return Err(IncludeError::Outside);
         }
         if file.full == full || self.is_open(full.as_str()) {
             return Err(IncludeError::Reason("file that includes itself"));

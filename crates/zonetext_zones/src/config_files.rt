@@ -1,4 +1,5 @@
 //! The files of a configuration, and those that they include.
+use crate::file_places::FilePlace;
 use crate::path_patterns::paths_of;
 use crate::zone_sources::{SourceError, error_at, located, place_text, read_error, text_of_file};
 use server_config::{ConfigError, ConfigToken, TextSpan};
@@ -68,6 +69,14 @@ impl ConfigFile {
     pub fn place(&mut self, alloc: Global, at: usize) -> Result<String, AllocError> {
         self.counted = located(self.text.as_slice(), self.counted, at);
         place_text(alloc, self.name.as_str(), self.counted)
+    }
+
+    /// Returns the place of a span that names a zone file. Lines are counted as by [`ConfigFile::place`].
+    pub fn file_place(&mut self, alloc: Global, span: TextSpan) -> Result<FilePlace, AllocError> {
+        let (file, text) = (self.name.as_str(), self.text.as_slice());
+        let found = FilePlace::of_span(alloc, file, text, self.counted, span)?;
+        self.counted = found.place;
+        Ok(found)
     }
 
     /// Returns the text of a word of the file that it means.

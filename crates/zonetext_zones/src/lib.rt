@@ -4,6 +4,7 @@
 
 pub mod arguments;
 mod config_files;
+pub mod file_places;
 pub mod listed_zones;
 mod named_once;
 pub mod named_zones;

@@ -1,10 +1,14 @@
 //! Lists of zones: lines with a zone and its file.
+use crate::file_places::FilePlace;
 use crate::options::name_of;
 use crate::zone_sources::{
-    SourceError, Sources, ZoneSource, error_at, no_zone_in, octets_between, octets_in, text_of_file,
+    HostNameCheck, SourceError, Sources, ZoneSource, error_at, located, no_zone_in, octets_between,
+    octets_in, text_of_file,
 };
 use server_config::{ListLine, TextSpan, list_line};
 use std::alloc::Global;
+use zone_format::place::LocatedOffset;
+use zonetext_files::open_file::first_place;
 
 /// A line of a list, and its place.
 #[derive(Clone, Copy)]
@@ -13,20 +17,30 @@ struct Line<'l> {
     file: &'l str,
     /// The text of the list.
     text: &'l [u8],
-    /// Offset of the line.
-    at: usize,
+    /// Place of the line.
+    place: LocatedOffset,
     /// The line, without its end.
     octets: &'l [u8],
 }
 
 impl<'l> Line<'l> {
+    /// Returns the span in the list of one in the line.
+    fn span_in_list(&self, span: TextSpan) -> TextSpan {
+        TextSpan {
+            at: self.place.at.saturating_add(span.at),
+            end: self.place.at.saturating_add(span.end),
+        }
+    }
+
     /// Returns the error of a word of the line.
     fn error(&self, alloc: Global, span: TextSpan, message: &str) -> SourceError {
-        let span = TextSpan {
-            at: self.at.saturating_add(span.at),
-            end: self.at.saturating_add(span.end),
-        };
-        error_at(alloc, self.file, self.text, span, message)
+        error_at(
+            alloc,
+            self.file,
+            self.text,
+            self.span_in_list(span),
+            message,
+        )
     }
 
     /// Returns a word of the line.
@@ -46,6 +60,8 @@ impl<'l> Line<'l> {
     ) -> Result<ZoneSource, SourceError> {
         let name = self.word(alloc, zone)?;
         let path = self.word(alloc, file)?;
+        let span = self.span_in_list(file);
+        let place = FilePlace::of_span(alloc, self.file, self.text, self.place, span)?;
         if name_of(name).is_none() {
             return Err(self.error(alloc, zone, "not a domain name"));
         }
@@ -55,7 +71,8 @@ impl<'l> Line<'l> {
             class: None,
             base: None,
             max_ttl: None,
-            needs_host_names: false,
+            host_names: HostNameCheck::Loads,
+            file_place: Some(place),
         })
     }
 
@@ -93,20 +110,23 @@ pub fn add_listed(rt: &HostRuntime, file: &str, sources: &mut Sources) -> Result
     let text = text_of_file(rt, file)?;
     let text = text.as_slice();
     let before = sources.zones.len();
-    let mut at = 0;
+    let mut place = first_place();
     for _ in 0..u64::MAX {
-        if text.len() <= at {
+        if text.len() <= place.at {
             break;
         }
-        let end = line_end(text, at);
+        let end = line_end(text, place.at);
         let line = Line {
             file,
             text,
-            at,
-            octets: octets_between(text, at, end),
+            place,
+            octets: octets_between(text, place.at, end),
         };
         line.add(rt.alloc(), sources)?;
-        at = end.saturating_add(1);
+        if text.len() <= end {
+            break;
+        }
+        place = located(text, place, end.saturating_add(1));
     }
     if sources.zones.len() == before {
         return Err(no_zone_in(rt.alloc(), file));

@@ -1,9 +1,11 @@
 //! The zones of a `named.conf`.
 use crate::config_files::{ConfigFile, ConfigFiles, span_of, span_of_error};
+use crate::file_places::{FilePlace, copy_of_place};
 use crate::named_once::{NamedPlace, named_once};
 use crate::options::{name_of, seconds_in};
 use crate::zone_sources::{
-    SourceError, Sources, ZoneSource, config_message, located_path, no_zone_in, position_of,
+    HostNameCheck, SourceError, Sources, ZoneSource, config_message, located_path, no_zone_in,
+    position_of,
 };
 use rdata_values::Class;
 use server_config::{
@@ -89,6 +91,8 @@ struct NamedZone {
     /// Number of the views before its own, if it is in one.
     view: Option<usize>,
     file: String,
+    /// The place of the path.
+    file_place: Option<FilePlace>,
     max_ttl: MaxTtl,
     settings: ZoneSettings,
 }
@@ -124,6 +128,7 @@ fn no_zone(alloc: Global) -> NamedZone {
         class: None,
         view: None,
         file: String::new(alloc),
+        file_place: None,
         max_ttl: MaxTtl::Unset,
         settings: ZoneSettings::none(),
     }
@@ -179,6 +184,15 @@ fn nearly_keyword<'k>(alloc: Global, word: &[u8]) -> Result<Option<&'k str>, All
         }
     }
     Ok(None)
+}
+
+/// Returns what the server does with names of hosts that are not host names, by its `check-names`.
+fn host_names_of(check_names: Option<Severity>) -> HostNameCheck {
+    match check_names {
+        Some(Severity::Warn) => HostNameCheck::Loads,
+        Some(Severity::Ignore) => HostNameCheck::Ignores,
+        _ => HostNameCheck::Rejects,
+    }
 }
 
 /// Returns the error of a zone, at its name.
@@ -340,7 +354,9 @@ impl<'r> NamedReader<'r> {
         match event {
             ConfigEvent::Directory(token) => self.set_directory(file, token),
             ConfigEvent::File(token) => {
-                self.zone.file = string_of(self.rt.alloc(), file, token)?;
+                let alloc = self.rt.alloc();
+                self.zone.file = string_of(alloc, file, token)?;
+                self.zone.file_place = Some(file.file_place(alloc, span_of(token))?);
                 Ok(())
             }
             ConfigEvent::MaxZoneTtl(token) => self.set_max_ttl(file, token, before.block),
@@ -420,7 +436,8 @@ impl<'r> NamedReader<'r> {
             class: zone.class.or(outer.class),
             base: Some(String::from_str(alloc, base)?),
             max_ttl: zone.max_ttl.within(outer.max_ttl).seconds(),
-            needs_host_names: !matches!(check_names, Some(Severity::Warn) | Some(Severity::Ignore)),
+            host_names: host_names_of(check_names),
+            file_place: copy_of_place(&zone.file_place)?,
         })
     }
 

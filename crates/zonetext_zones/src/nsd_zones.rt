@@ -1,9 +1,10 @@
 //! The zones of an `nsd.conf`.
 use crate::config_files::{ConfigFile, ConfigFiles, span_of, span_of_error};
+use crate::file_places::{FilePlace, copy_of_place};
 use crate::named_once::{NamedPlace, named_once};
 use crate::options::name_of;
 use crate::zone_sources::{
-    SourceError, Sources, ZoneSource, config_message, located_path, no_zone_in,
+    HostNameCheck, SourceError, Sources, ZoneSource, config_message, located_path, no_zone_in,
 };
 use server_config::{
     ConfigToken, NsdEvent, NsdSection, ZoneOutcome, append_zone_path, next_nsd_step,
@@ -21,6 +22,8 @@ struct NsdBlock {
     /// The place of its keyword, as `FILE:LINE:COLUMN`.
     place: String,
     file: Option<String>,
+    /// The place of the path.
+    file_place: Option<FilePlace>,
     requests_transfer: bool,
 }
 
@@ -133,6 +136,7 @@ impl<'r> NsdReader<'r> {
             name: String::new(alloc),
             place,
             file: None,
+            file_place: None,
             requests_transfer: false,
         });
         Ok(())
@@ -147,10 +151,12 @@ impl<'r> NsdReader<'r> {
                 continue;
             }
             let path = copy_of(&pattern.file)?;
+            let place = copy_of_place(&pattern.file_place)?;
             if let Some(block) = &mut self.block {
                 block.requests_transfer = block.requests_transfer || pattern.requests_transfer;
                 if path.is_some() {
                     block.file = path;
+                    block.file_place = place;
                 }
             }
             return Ok(());
@@ -165,10 +171,11 @@ impl<'r> NsdReader<'r> {
         }
     }
 
-    /// Sets the path of the zone or the pattern that is open.
-    fn set_file(&mut self, path: String) {
+    /// Sets the path of the zone or the pattern that is open, and the place of the path.
+    fn set_file(&mut self, path: String, place: FilePlace) {
         if let Some(block) = &mut self.block {
             block.file = Some(path);
+            block.file_place = Some(place);
         }
     }
 
@@ -189,7 +196,8 @@ impl<'r> NsdReader<'r> {
             }
             NsdEvent::ZoneFile(token) => {
                 let path = string_of(alloc, file, token)?;
-                self.set_file(path);
+                let place = file.file_place(alloc, span_of(token))?;
+                self.set_file(path, place);
                 Ok(())
             }
             NsdEvent::IncludePattern(token) => self.apply(file, token),
@@ -254,7 +262,8 @@ impl<'r> NsdReader<'r> {
             class: None,
             base: Some(String::from_str(alloc, base)?),
             max_ttl: None,
-            needs_host_names: false,
+            host_names: HostNameCheck::Loads,
+            file_place: copy_of_place(&zone.file_place)?,
         })
     }
 

@@ -25,6 +25,12 @@ pub enum Usage<'o> {
         value: &'o str,
         wants: &'static str,
     },
+    /// The option names a code that doesn't exist, and there is one with nearly that name.
+    NearCode {
+        option: &'static str,
+        value: &'o str,
+        near: &'static str,
+    },
     /// The option names a code about records, and only the text is checked.
     OfRecords {
         option: &'static str,
@@ -201,6 +207,17 @@ pub fn status_of(rt: &HostRuntime, answer: Result<u8, Usage<'_>>) -> io::Result<
         ) => {
             let value = Shown(value);
             eprintln!(rt; "zonetext: {option} {value}: wants {wants}")?;
+            Ok(USAGE)
+        }
+        Err(
+            Usage::NearCode {
+                option,
+                value,
+                near,
+            },
+        ) => {
+            let value = Shown(value);
+            eprintln!(rt; "zonetext: {option} {value}: no such code; did you mean {near}?")?;
             Ok(USAGE)
         }
         Err(Usage::OfRecords { option, value }) => {

@@ -1,7 +1,9 @@
 //! Folders of zone files, whose names have their zones.
 use crate::options::name_of;
 use crate::path_patterns::names_in;
-use crate::zone_sources::{SourceError, Sources, ZoneSource, joined, octets_in, read_error};
+use crate::zone_sources::{
+    HostNameCheck, SourceError, Sources, ZoneSource, joined, octets_in, read_error,
+};
 use server_config::{is_doubtful_zone, is_side_file, zone_in_name};
 use std::alloc::{AllocError, Global};
 use std::fs::{canonicalize, metadata};
@@ -50,7 +52,8 @@ fn source_of(alloc: Global, zone: &str, file: String) -> Result<ZoneSource, Allo
         class: None,
         base: None,
         max_ttl: None,
-        needs_host_names: false,
+        host_names: HostNameCheck::Loads,
+        file_place: None,
     })
 }
 

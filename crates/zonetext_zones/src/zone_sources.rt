@@ -1,4 +1,5 @@
 //! The zones that a configuration, a list or a folder names, and their files.
+use crate::file_places::FilePlace;
 use crate::options::USAGE;
 use rdata_values::Class;
 use server_config::{ConfigErrorKind, OmittedCounts, TextSpan};
@@ -11,6 +12,17 @@ use zonetext_files::open_file::{first_place, place_after};
 use zonetext_files::root_path::rooted;
 use zonetext_files::shown::{Shown, quoted};
 use zonetext_files::stop::EXIT_IO;
+
+/// What a server does with names that must be those of hosts, and are not.
+#[derive(Clone, Copy, PartialEq, Eq)]
+pub enum HostNameCheck {
+    /// It loads the zone.
+    Loads,
+    /// It rejects the zone.
+    Rejects,
+    /// It loads the zone, and nothing is reported.
+    Ignores,
+}
 
 /// A zone, and how its file is checked.
 #[derive(Drop)]
@@ -25,8 +37,10 @@ pub struct ZoneSource {
     pub base: Option<String>,
     /// The greatest TTL, if there is one.
     pub max_ttl: Option<u32>,
-    /// Whether a server rejects the zone if the name of a host is not a host name.
-    pub needs_host_names: bool,
+    /// What the server does with names of hosts that are not host names.
+    pub host_names: HostNameCheck,
+    /// Where a configuration or a list names the file, if one does.
+    pub file_place: Option<FilePlace>,
 }
 
 /// The zones that were found.
