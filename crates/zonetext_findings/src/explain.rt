@@ -1,4 +1,7 @@
 //! The messages about rejected entries, which name what was probably meant.
+use crate::helps::{
+    WordText, foreign_word, help_for_class, help_for_directive, help_for_preference,
+};
 use crate::locations::{data_start, spot_at, token_at, token_part};
 use crate::octet_texts::{ESCAPE, escape_text};
 use crate::reporter::FindingLocation;
@@ -190,6 +193,10 @@ fn help_for_type(
     if is_owner(refusal, token) {
         return String::from_str(alloc, "an owner begins in column 1");
     }
+    let class = help_for_class(alloc, token, token_after(refusal.tokens, token.at))?;
+    if !class.is_empty() {
+        return Ok(class);
+    }
     match str::from_utf8(token.text) {
         Ok(word) => question_of(alloc, similar_types(alloc, word)?.as_slice()),
         Err(_) => Ok(String::new(alloc)),
@@ -315,9 +322,34 @@ fn explain_header<'e>(
     if !is_unknown {
         return Ok(None);
     }
+    if let Some(WordText { message, help }) = foreign_word(alloc, token)? {
+        let help = help.as_str();
+        return Ok(Some(explanation(alloc, refusal, spot, message, help)?));
+    }
     let text = plain_message(alloc, refusal.error, refusal.code, Some(*token))?;
     let help = help_for_type(alloc, refusal, token)?;
     Ok(Some(explanation(alloc, refusal, spot, text, help.as_str())?))
+}
+
+/// Returns what to write instead of a token that is rejected, or an empty text.
+fn help_for(
+    alloc: Global,
+    refusal: Refusal<'_, '_>,
+    token: &EntryToken<'_>,
+) -> Result<String, AllocError> {
+    let is_first = refusal
+        .tokens
+        .first()
+        .is_some_and(|first| first.at == token.at);
+    if refusal.code == Code::Directive && is_first {
+        return help_for_directive(alloc, token);
+    }
+    let (tokens, rtype) = (refusal.tokens, refusal.error.rtype);
+    let help = help_for_preference(alloc, tokens, refusal.is_blank, rtype, token)?;
+    if !help.is_empty() {
+        return Ok(help);
+    }
+    String::from_str(alloc, help_for_address(refusal.error.kind, token))
 }
 
 /// Explains a token with an escape above 255.
@@ -402,13 +434,13 @@ pub fn explain<'e>(
         }
     }
     let help = match &token {
-        Some(token) => help_for_address(refusal.error.kind, token),
-        None => "",
+        Some(token) => help_for(alloc, refusal, token)?,
+        None => String::new(alloc),
     };
     let text = plain_message(alloc, refusal.error, refusal.code, token)?;
     let spot = match mandatory_token(refusal) {
         Some(token) => token_at(entry, &token),
         None => spot_at(entry, refusal.tokens, refusal.error.offset),
     };
-    explanation(alloc, refusal, spot, text, help)
+    explanation(alloc, refusal, spot, text, help.as_str())
 }

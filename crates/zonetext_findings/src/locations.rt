@@ -63,12 +63,13 @@ pub fn line_spot<'s>(
     }
 }
 
-/// Returns the number of the field of a type's data that is a target: the host of NS, MX and SRV, and
-/// the target of CNAME, SVCB and HTTPS.
+/// Returns the number of the field of a type's data that is a target: the host of NS, MX, SRV, PTR, SOA,
+/// AFSDB and RT, and the target of CNAME, SVCB and HTTPS.
 fn target_number(rtype: RecordType) -> Option<usize> {
     match rtype {
-        RecordType::NS | RecordType::CNAME => Some(0),
-        RecordType::MX | RecordType::SVCB | RecordType::HTTPS => Some(1),
+        RecordType::NS | RecordType::CNAME | RecordType::PTR | RecordType::SOA => Some(0),
+        RecordType::MX | RecordType::AFSDB | RecordType::RT => Some(1),
+        RecordType::SVCB | RecordType::HTTPS => Some(1),
         RecordType::SRV => Some(3),
         _ => None,
     }
@@ -126,7 +127,10 @@ fn on_first_line(beginning: Position, at: usize) -> Position {
 
 /// Returns whether the target of a type is the last field of its data.
 fn is_last_field(rtype: RecordType) -> bool {
-    !matches!(rtype, RecordType::SVCB | RecordType::HTTPS)
+    !matches!(
+        rtype,
+        RecordType::SVCB | RecordType::HTTPS | RecordType::SOA
+    )
 }
 
 /// Returns the position of the target of a record. `last` is its offset, if that is known, `number`
@@ -414,19 +418,17 @@ pub fn token_part<'e>(
     spot(entry, token.at.saturating_add(offset), count)
 }
 
-/// Returns the location of a syntax error of an entry, with the position where a quote was opened.
+/// Returns the location of a syntax error of an entry: that of the quote, if one is not closed.
 pub fn fault_at<'e>(entry: &Entry<'e>, fault: Fault) -> FindingLocation<'e> {
     if entry.generated.is_some() {
         return beginning(entry);
     }
-    let finding = fault_finding(entry.octets, entry.offset, fault);
-    let opened = match fault.wrong {
-        Wrong::OpenQuote(at) => Some(position_at(entry, at.saturating_sub(entry.offset))),
-        _ => None,
-    };
-    FindingLocation {
-        opened,
-        ..part_at(entry, finding.start, finding.width)
+    match fault.wrong {
+        Wrong::OpenQuote(at) => part_at(entry, at.saturating_sub(entry.offset), 1),
+        _ => {
+            let finding = fault_finding(entry.octets, entry.offset, fault);
+            part_at(entry, finding.start, finding.width)
+        }
     }
 }
 

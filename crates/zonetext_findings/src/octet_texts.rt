@@ -1,5 +1,6 @@
 //! The messages of findings about the octets of entries.
 use crate::entry_cache::EntryCache;
+use crate::helps::{BLANK_HELP, escaped_word, has_no_break_space};
 use crate::locations::{
     begins_blank, data_start, fault_at, part_at, position_at, width, with_width,
 };
@@ -7,10 +8,11 @@ use crate::reporter::FindingLocation;
 use crate::subjects::{Text, text_of};
 use dns_lexer::entry_tokens::EntryToken;
 use dns_lexer::pieces::{Fault, Wrong};
+use dns_lexer::position::Position;
 use error_texts::contents::high_escape_text;
 use error_texts::kinds::syntax_error_text;
 use finding_codes::code::Code;
-use finding_texts::ascii::ascii_name;
+use finding_texts::ascii::{ascii_name, is_allowed_name};
 use finding_texts::mistakes::{high_escape, quotation_mark};
 use rdata::type_row;
 use rdata_fields::Field;
@@ -128,6 +130,28 @@ fn is_name_token(
     place >= start && is_name(rtype, place - start)
 }
 
+/// Returns the position of the name in which an octet outside of ASCII is, if a finding is about one.
+pub fn name_position<'e>(
+    entry: &Entry<'e>,
+    cache: &mut EntryCache<'e>,
+    finding: &EntryFinding,
+) -> Result<Option<Position>, AllocError> {
+    if finding.code != Code::HighOctet {
+        return Ok(None);
+    }
+    cache.read_tokens(entry)?;
+    let at = match token_of(cache.tokens(), finding.start) {
+        Some((place, token)) => {
+            if !is_name_token(entry, cache.tokens(), place, begins_blank(entry)) {
+                return Ok(None);
+            }
+            token.at
+        }
+        None => return Ok(None),
+    };
+    Ok(Some(cache.position(entry, at)))
+}
+
 /// Returns the text about a token with an octet outside of ASCII, which has an index.
 fn not_ascii(
     alloc: Global,
@@ -136,15 +160,26 @@ fn not_ascii(
     place: usize,
     token: &EntryToken<'_>,
 ) -> Result<Text, AllocError> {
-    let word = quoted(alloc, token.text)?;
+    let word = if has_no_break_space(token.text) {
+        escaped_word(alloc, token.text)?
+    } else {
+        quoted(alloc, token.text)?
+    };
+    let word = word.as_str();
     let message = format!(in alloc; "{word} is not ASCII")?;
     let text = Text::new(alloc, message);
+    if has_no_break_space(token.text) && !token.is_quoted {
+        let help = String::from_str(alloc, BLANK_HELP)?;
+        return Ok(Text { help, ..text });
+    }
     if token.is_quoted || !is_name_token(entry, tokens, place, begins_blank(entry)) {
         return Ok(text);
     }
     match ascii_name(alloc, token.text)? {
-        Some(help) => Ok(Text { help, ..text }),
-        None => Ok(text),
+        Some(help) if str::from_utf8(token.text).is_ok_and(|name| is_allowed_name(name)) => {
+            Ok(Text { help, ..text })
+        }
+        _ => Ok(text),
     }
 }
 
@@ -172,6 +207,68 @@ fn high_octet_text<'e>(
     ))
 }
 
+/// Returns whether a token begins where another ended.
+fn are_adjacent(first: &EntryToken<'_>, second: &EntryToken<'_>) -> bool {
+    first.at.saturating_add(width(first)) == second.at
+}
+
+/// Returns whether a finding about adjacent tokens is at the second of three, of which the first and the
+/// last are quoted in RDATA, and this is not: a quote in a string is not escaped.
+fn has_open_quote(entry: &Entry<'_>, cache: &EntryCache<'_>, finding: &EntryFinding) -> bool {
+    let tokens = cache.tokens();
+    let Some((place, token)) = token_of(tokens, finding.start) else {
+        return false;
+    };
+    if token.is_quoted || place < data_start(tokens, begins_blank(entry)) {
+        return false;
+    }
+    let before = match place.checked_sub(1) {
+        Some(place) => tokens.get(place),
+        None => None,
+    };
+    match (before, tokens.get(place.saturating_add(1))) {
+        (Some(before), Some(after)) => {
+            before.is_quoted
+                && after.is_quoted
+                && are_adjacent(before, &token)
+                && are_adjacent(&token, after)
+        }
+        _ => false,
+    }
+}
+
+/// Returns the token that ends where the one with the octet at an offset begins.
+fn word_before<'e>(tokens: &[EntryToken<'e>], at: usize) -> Option<EntryToken<'e>> {
+    let (place, token) = token_of(tokens, at)?;
+    let before = *tokens.get(place.checked_sub(1)?)?;
+    if are_adjacent(&before, &token) {
+        Some(before)
+    } else {
+        None
+    }
+}
+
+/// Returns whether a finding about adjacent tokens is at the last of three, and not reported besides that
+/// at the second.
+pub fn is_adjacent_to_word<'e>(
+    entry: &Entry<'e>,
+    cache: &mut EntryCache<'e>,
+    finding: &EntryFinding,
+) -> Result<bool, AllocError> {
+    if finding.code != Code::AdjacentTokens {
+        return Ok(false);
+    }
+    cache.read_tokens(entry)?;
+    let Some(word) = word_before(cache.tokens(), finding.start) else {
+        return Ok(false);
+    };
+    let second = EntryFinding {
+        start: word.at,
+        ..*finding
+    };
+    Ok(has_open_quote(entry, cache, &second))
+}
+
 /// Returns the location and the text of a finding about the octets of an entry.
 pub fn octet_text<'e>(
     alloc: Global,
@@ -191,7 +288,13 @@ pub fn octet_text<'e>(
                 Some((_, token)) => Some(token.text),
                 None => None,
             };
-            Ok((spot, Text::worded(alloc, finding.code.message(), word)?))
+            let text = Text::worded(alloc, finding.code.message(), word)?;
+            if finding.code == Code::AdjacentTokens && has_open_quote(entry, cache, finding) {
+                let help = "write \\\" for a quote in a string";
+                let help = String::from_str(alloc, help)?;
+                return Ok((spot, Text { help, ..text }));
+            }
+            Ok((spot, text))
         }
         _ => Ok((spot, Text::worded(alloc, finding.code.message(), None)?)),
     }

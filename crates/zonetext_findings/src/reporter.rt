@@ -3,6 +3,7 @@ use crate::exceptions::Exceptions;
 use crate::finding_copy::{FindingCopy, copied};
 use crate::ledger::Ledger;
 use crate::machine::{Before, Format};
+use crate::repeated_files::RepeatedFiles;
 use crate::word_ranks::{WordRanks, may_be_beaten};
 use dns_lexer::position::Position;
 use finding_codes::code::{Code, Severity};
@@ -142,21 +143,31 @@ pub struct Reporter<'a> {
     /// The zone in the keys of findings, or the file if no zone is set.
     pub zone_key: String,
     /// The finding that was counted last, if it is judged once its key is known.
-    unjudged: Option<FoundFinding>,
+    unjudged: Option<WordFinding>,
     /// The findings that a baseline may know, or that others may beat.
     held: Vec<HeldFinding>,
     /// Whether findings wait until [`Reporter::flush`], or are counted until then.
     holds: bool,
     /// The ranks of findings, if they are held.
     words: WordRanks,
+    /// The files that are included again, and the findings in them.
+    files: RepeatedFiles,
     /// Whether memory was short for these.
     is_short: bool,
+}
+
+/// A finding, and the position of the word that it is about, if only one finding of that is reported.
+#[derive(Clone, Copy)]
+struct WordFinding {
+    found: FoundFinding,
+    word: Option<Position>,
 }
 
 /// A finding that a baseline may know, or that another may beat, until all findings of its zone are known.
 #[derive(Drop)]
 struct HeldFinding {
     found: FoundFinding,
+    word: Option<Position>,
     /// Its key, if findings have keys.
     key: Option<Vec<u8>>,
     copy: FindingCopy,
@@ -204,6 +215,7 @@ impl<'a> Reporter<'a> {
             held: Vec::new(rt.alloc()),
             holds: false,
             words: WordRanks::new(rt.alloc()),
+            files: RepeatedFiles::new(rt.alloc()),
             is_short: false,
         }
     }
@@ -211,6 +223,12 @@ impl<'a> Reporter<'a> {
     /// Counts warnings, and shows none.
     pub fn omit_warnings(&mut self) {
         self.omits_warnings = true;
+    }
+
+    /// Begins a file, with the number of those before it: of the findings at one place of a file that is
+    /// included twice, only the first of each code are reported.
+    pub fn begin_file(&mut self, file: &str, number: usize) -> Result<(), AllocError> {
+        self.files.begin(file, number)
     }
 
     /// Lets findings wait until [`Reporter::flush`], which chooses those that are shown, errors first,
@@ -274,10 +292,18 @@ impl<'a> Reporter<'a> {
         self.held.sort_by(|left, right| compare_held(left, right))?;
         self.held.as_mut_slice().reverse();
         for _ in 0..self.held.len() {
-            let Some(HeldFinding { found, key, copy }) = self.held.pop() else {
+            let Some(
+                HeldFinding {
+                    found,
+                    word,
+                    key,
+                    copy,
+                },
+            ) = self.held.pop()
+            else {
                 return Ok(());
             };
-            if self.words.is_beaten(found.code, found.file, found.position) {
+            if self.is_beaten(WordFinding { found, word }) {
                 continue;
             }
             if let Some(key) = &key {
@@ -402,6 +428,19 @@ impl<'a> Reporter<'a> {
         code: Code,
         is_refused: bool,
     ) -> Option<KeptFinding> {
+        self.count_in_word(file, position, Some(position), code, is_refused)
+    }
+
+    /// Counts a finding as [`Reporter::count`] does. `word` is the position of the word that it is about,
+    /// if only one finding of that is reported.
+    pub fn count_in_word(
+        &mut self,
+        file: usize,
+        position: Position,
+        word: Option<Position>,
+        code: Code,
+        is_refused: bool,
+    ) -> Option<KeptFinding> {
         let is_excepted = can_be_excepted(code, is_refused) && self.exceptions.excepts(code);
         let found = FoundFinding {
             file,
@@ -412,28 +451,59 @@ impl<'a> Reporter<'a> {
         };
         self.unjudged = None;
         let severity = severity_of(&self.policy, code, is_refused, is_excepted)?;
-        if !self.is_first_of_word(found) {
+        let counted = WordFinding { found, word };
+        if self.is_repeated(found) || !self.is_first_of_word(counted) {
             return None;
         }
         let has_key = self.ledger.has_keys() && can_be_excepted(code, is_refused);
-        if has_key || (self.holds && may_be_beaten(code, "NS")) {
-            self.unjudged = Some(found);
+        if has_key || self.waits(counted, "NS") {
+            self.unjudged = Some(counted);
             return Some(kept_finding(0, found, severity));
         }
         self.judge(found)
     }
 
-    /// Returns whether no finding with a lesser rank was counted at the position of one, and adds it
-    /// then, if findings are held.
-    fn is_first_of_word(&mut self, found: FoundFinding) -> bool {
+    /// Returns whether a finding was reported when its file was included before.
+    fn is_repeated(&mut self, found: FoundFinding) -> bool {
+        match self.files.repeats(found.file, found.position, found.code) {
+            Ok(repeats) => repeats,
+            Err(_) => {
+                self.is_short = true;
+                false
+            }
+        }
+    }
+
+    /// Returns whether a finding, about a record of a type, is held since one that is found later may beat
+    /// it.
+    fn waits(&self, counted: WordFinding, rtype: &str) -> bool {
+        self.holds && counted.word.is_some() && may_be_beaten(counted.found.code, rtype)
+    }
+
+    /// Returns whether a finding with a lesser rank was counted at the word of one.
+    fn is_beaten(&self, counted: WordFinding) -> bool {
+        match counted.word {
+            Some(word) => self
+                .words
+                .is_beaten(counted.found.code, counted.found.file, word),
+            None => false,
+        }
+    }
+
+    /// Returns whether no finding with a lesser rank was counted at the word of one, and adds it then, if
+    /// findings are held.
+    fn is_first_of_word(&mut self, counted: WordFinding) -> bool {
+        let Some(word) = counted.word else {
+            return true;
+        };
         if !self.holds {
             return true;
         }
-        let (code, file, position) = (found.code, found.file, found.position);
-        if self.words.is_beaten(code, file, position) {
+        if self.is_beaten(counted) {
             return false;
         }
-        if self.words.add(code, file, position).is_err() {
+        let (code, file) = (counted.found.code, counted.found.file);
+        if self.words.add(code, file, word).is_err() {
             self.is_short = true;
         }
         true
@@ -481,34 +551,36 @@ impl<'a> Reporter<'a> {
         self.show_now(&finding, line, spot.number)
     }
 
-    /// Returns the help of a held finding at the position of one that beats it, if that has none.
+    /// Returns the help of a held finding about the word of one that beats it, if that has none.
     fn beaten_help(&self, counted: KeptFinding, help: &str) -> Result<Option<Vec<u8>>, AllocError> {
-        if !help.is_empty() || counted.code != Code::NsAddress {
+        if !help.is_empty() || !self.holds {
             return Ok(None);
         }
-        for held in &self.held {
-            let (found, place) = (held.found, counted.position);
-            let is_there = found.position.line == place.line
-                && found.position.column == place.column;
-            if found.file == counted.file && is_there {
-                return match held.copy.finding().help {
-                    Some(help) => Ok(Some(copied(self.rt.alloc(), help)?)),
-                    None => Ok(None),
-                };
-            }
+        let found = self
+            .words
+            .held_at(counted.code, counted.file, counted.position);
+        let Some(place) = found else {
+            return Ok(None);
+        };
+        match self.held.get(place) {
+            Some(held) => match held.copy.finding().help {
+                Some(help) => Ok(Some(copied(self.rt.alloc(), help)?)),
+                None => Ok(None),
+            },
+            None => Ok(None),
         }
-        Ok(None)
     }
 
     /// Judges a finding by its key, and shows it, keeps it, or holds it if a baseline may know it.
     fn show_keyed(
         &mut self,
-        found: FoundFinding,
+        counted: WordFinding,
         finding: &Finding<'_>,
         line: Option<LinePart<'_>>,
         finding_text: FindingText<'_>,
     ) -> Result<(), RunError> {
         let alloc = self.rt.alloc();
+        let WordFinding { found, word } = counted;
         let key = self.ledger.key_of(
             alloc,
             found.code,
@@ -521,8 +593,17 @@ impl<'a> Reporter<'a> {
             Some(key) => self.ledger.may_know(key),
             None => false,
         };
-        if may_be_known || (self.holds && may_be_beaten(found.code, finding_text.rtype)) {
-            self.held.push(HeldFinding { found, key, copy })?;
+        if may_be_known || self.waits(counted, finding_text.rtype) {
+            if let Some(word) = word {
+                let place = self.held.len();
+                self.words.hold(found.code, found.file, word, place)?;
+            }
+            self.held.push(HeldFinding {
+                found,
+                word,
+                key,
+                copy,
+            })?;
             return Ok(());
         }
         if let Some(key) = &key {
