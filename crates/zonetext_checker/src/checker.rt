@@ -38,7 +38,7 @@ use zonetext_findings::locations::{
     beginning, begins_blank, first_tokens, line_spot, long_at, number_of, position_at,
     target_position, token_at, tokens_of,
 };
-use zonetext_findings::octet_texts::{is_of_file, octet_text};
+use zonetext_findings::octet_texts::{is_adjacent_to_word, is_of_file, name_position, octet_text};
 use zonetext_findings::reporter::{FindingText, Reporter};
 use zonetext_findings::subjects::Text;
 
@@ -550,12 +550,16 @@ impl<'a> Checker<'a> {
         finding: &EntryFinding,
     ) -> Result<(), RunError> {
         let (code, start) = (finding.code, finding.start);
+        if is_adjacent_to_word(entry, cache, finding)? {
+            return Ok(());
+        }
         let position = cache.position(entry, start);
         let is_fault = code.is_text_fault();
+        let word = name_position(entry, cache, finding)?;
         let counted = self
             .findings
             .reporter
-            .count(entry.number, position, code, is_fault);
+            .count_in_word(entry.number, position, word, code, is_fault);
         let Some(counted) = counted else {
             return Ok(());
         };
@@ -687,6 +691,7 @@ fn is_unclosed(found: &[EntryFinding]) -> bool {
 
 impl<'a> Visit for Checker<'a> {
     fn begin(&mut self, file: &str, number: usize, mark: &[u8]) -> Result<(), RunError> {
+        self.findings.reporter.begin_file(file, number)?;
         if let Some(held) = &mut self.held {
             let name = String::from_str(self.alloc, file)?;
             held.files.push(name)?;
@@ -750,7 +755,10 @@ impl<'a> Visit for Checker<'a> {
         };
         let word = quoted(self.alloc, word)?;
         let text = unfit.text(self.alloc, word.as_str())?;
-        let finding_text = FindingText::message(text.as_str());
+        let finding_text = FindingText {
+            help: unfit.help(),
+            ..FindingText::message(text.as_str())
+        };
         self.findings
             .reporter
             .report(spot, Code::Include, true, finding_text)

@@ -1,8 +1,11 @@
 //! Reports findings with the owners and the types of the records that they are about.
-use crate::entry_texts::entry_text;
+use crate::entry_texts::{entry_text, finding_at_part};
+use crate::file_sets::{FileSet, first_equal, is_of_set, place_words, repeated_text, ttl_of};
 use crate::held_zone::{RecordLocation, SortedZone};
-use crate::rule_texts::{CheckedZone, rule_text};
-use dns_lexer::pieces::Fault;
+use crate::host_texts::{is_about_target, is_of_browsing};
+use crate::rule_texts::{CheckedZone, has_only_cnames, rule_text};
+use crate::spelled_lines::{dot_question, ttl_in_line};
+use dns_lexer::pieces::{Fault, Wrong};
 use dns_lexer::position::Position;
 use dns_octets::AsOctets;
 use finding_codes::code::Code;
@@ -21,7 +24,7 @@ use zonetext_files::zone_files::Entry;
 use zonetext_findings::entry_cache::EntryCache;
 use zonetext_findings::exceptions::{Exception, Slip};
 use zonetext_findings::explain::{Refusal, explain};
-use zonetext_findings::locations::{begins_blank, first_tokens, line_spot, tokens_of};
+use zonetext_findings::locations::{begins_blank, fault_at, first_tokens, line_spot, tokens_of};
 use zonetext_findings::octet_texts::fault_text;
 use zonetext_findings::reporter::{FindingLocation, FindingText, Reporter};
 use zonetext_findings::subjects::{Subject, Text};
@@ -63,6 +66,20 @@ fn code_spot<'s>(
     }
 }
 
+/// Returns whether a broken rule of a record is not reported: that of the first CNAME if only others are at
+/// its name, which are reported, or that of a host name if the record names a browsing domain.
+fn is_omitted_at<Origin: AsOctets>(
+    checked: &CheckedZone<'_, Origin>,
+    code: Code,
+    place: usize,
+) -> bool {
+    match code {
+        Code::Cname => has_only_cnames(checked, place),
+        Code::HostName => is_of_browsing(checked.held, place),
+        _ => false,
+    }
+}
+
 /// Reports findings with their subjects.
 #[derive(Drop)]
 pub struct Findings<'a> {
@@ -78,6 +95,12 @@ pub struct Findings<'a> {
     has_subjects: bool,
     /// Number of records among which names like others were looked for.
     searched: usize,
+    /// The records of the last finding about one beside others of its name and type, except about TTLs.
+    last_set: Option<FileSet>,
+    /// The records of the last finding about TTLs.
+    last_ttl_set: Option<FileSet>,
+    /// The last duplicate, and the first record that is equal to it.
+    last_equal: Option<(usize, usize)>,
 }
 
 impl<'a> Findings<'a> {
@@ -97,6 +120,9 @@ impl<'a> Findings<'a> {
             is_standard,
             has_subjects,
             searched: 0,
+            last_set: None,
+            last_ttl_set: None,
+            last_equal: None,
         }
     }
 
@@ -153,6 +179,7 @@ impl<'a> Findings<'a> {
         finding: &EntryFinding,
         most: Option<u32>,
     ) -> Result<(), RunError> {
+        let finding = &finding_at_part(self.alloc, entry, finding)?;
         let (code, start) = (finding.code, finding.start);
         let position = cache.position(entry, start);
         let Some(counted) = self.reporter.count(entry.number, position, code, false) else {
@@ -172,7 +199,10 @@ impl<'a> Findings<'a> {
         fault: Fault,
     ) -> Result<(), RunError> {
         let code = finding.code;
-        let position = cache.position(entry, finding.start);
+        let position = match fault.wrong {
+            Wrong::OpenQuote(_) => fault_at(entry, fault).position,
+            _ => cache.position(entry, finding.start),
+        };
         let Some(counted) = self.reporter.count(entry.number, position, code, true) else {
             return Ok(());
         };
@@ -289,17 +319,140 @@ impl<'a> Findings<'a> {
         finding: &ZoneFinding,
     ) -> Result<(), RunError> {
         let (held, record) = (checked.held, finding.record);
-        let (code, at_target) = (finding.rule.code, finding.is_at_target);
+        let code = finding.rule.code;
+        let mut at_target = finding.is_at_target;
+        if let Some(place) = record {
+            if is_of_set(code, held.rtype(place)) {
+                return self.report_in_set(held, code, place);
+            }
+            if is_omitted_at(checked, code, place) {
+                return Ok(());
+            }
+            at_target = at_target || (code == Code::HostName && is_about_target(held, place));
+        }
         let Some(counted) = self.count_at(held, code, record, at_target) else {
             return Ok(());
         };
-        let may_search = at_target && self.may_search(held.records.len());
+        let may_search = finding.is_at_target && self.may_search(held.records.len());
         let broken = Finding {
             rule: finding.rule,
             record,
         };
         let text = rule_text(self.alloc, checked, &broken, may_search)?;
         self.show_at(held, counted, code, record, at_target, &text)
+    }
+
+    /// Reports a finding about a record beside others of its name and type: at the later one in the
+    /// files.
+    fn report_in_set(
+        &mut self,
+        held: &SortedZone,
+        code: Code,
+        place: usize,
+    ) -> Result<(), RunError> {
+        match code {
+            Code::TtlDiffers => self.report_ttl_once(held, place),
+            Code::Duplicate => {
+                let first = self.first_equal(held, place);
+                let text = repeated_text(self.alloc, held, code, first, place)?;
+                self.report_at(held, code, Some(place), false, &text)
+            }
+            _ => self.report_later(held, code, place),
+        }
+    }
+
+    /// Returns the first record that is equal to a duplicate.
+    fn first_equal(&mut self, held: &SortedZone, place: usize) -> usize {
+        let first = match self.last_equal {
+            Some((last, first)) if last.saturating_add(1) == place => first,
+            _ => first_equal(held, place),
+        };
+        self.last_equal = Some((place, first));
+        first
+    }
+
+    /// Reports a finding about a record beside others of its name and type, unless it is the first one
+    /// in the files: then the one that is first in canonical order is reported.
+    fn report_later(
+        &mut self,
+        held: &SortedZone,
+        code: Code,
+        place: usize,
+    ) -> Result<(), RunError> {
+        if !self.last_set.is_some_and(|set| set.has(code, place)) {
+            self.last_set = FileSet::of_record(held, code, place);
+        }
+        let Some(set) = self.last_set else {
+            return Ok(());
+        };
+        let place = set.reported(place);
+        let text = repeated_text(self.alloc, held, code, set.first, place)?;
+        self.report_at(held, code, Some(place), false, &text)
+    }
+
+    /// Reports a finding about the TTLs of a set, unless that was done.
+    fn report_ttl_once(&mut self, held: &SortedZone, place: usize) -> Result<(), RunError> {
+        let code = Code::TtlDiffers;
+        if self.last_ttl_set.is_some_and(|set| set.has(code, place)) {
+            return Ok(());
+        }
+        self.last_ttl_set = FileSet::of_record(held, code, place);
+        match self.last_ttl_set {
+            Some(set) => self.report_ttl(held, &set),
+            None => Ok(()),
+        }
+    }
+
+    /// Reports the first TTL in the files that is not that of the first record of a set.
+    fn report_ttl(&mut self, held: &SortedZone, set: &FileSet) -> Result<(), RunError> {
+        let Some(place) = set.other_ttl(held) else {
+            return Ok(());
+        };
+        let Some(location) = held.location(place) else {
+            return Ok(());
+        };
+        let (own, wanted) = (
+            ttl_of(held, place).unwrap_or(0),
+            ttl_of(held, set.first).unwrap_or(0),
+        );
+        let words = place_words(self.alloc, held, set.first, place)?;
+        let words = words.as_str();
+        let message = format!(in self.alloc;
+            "TTL {own}; the RRset's first, at {words}, has {wanted}"
+        )?;
+        let line = self.line_of(held, location.file, location.position)?;
+        let spelled = match &line {
+            Some(line) if location.generated.is_none() => {
+                ttl_in_line(line.as_slice(), location.position.line)
+            }
+            _ => None,
+        };
+        let (position, word) = match spelled {
+            Some(ttl) => (ttl.position, Some(ttl.word)),
+            None => (location.position, None),
+        };
+        let text = Text::worded(self.alloc, message.as_str(), word)?;
+        self.select_exceptions(Some(location));
+        let counted = self
+            .reporter
+            .count(location.file, position, Code::TtlDiffers, false);
+        match counted {
+            Some(counted) => self.show_spot(held, counted, Some(place), position, &text),
+            None => Ok(()),
+        }
+    }
+
+    /// Returns a line of a file, if it can be read again.
+    fn line_of(
+        &mut self,
+        held: &SortedZone,
+        file: usize,
+        position: Position,
+    ) -> Result<Option<Vec<u8>>, RunError> {
+        if file == 0 && self.is_standard {
+            return Ok(None);
+        }
+        self.lines.line(file, held.file(file), position.line)
     }
 
     /// Returns whether a name like another is looked for among a number of records.
@@ -357,8 +510,54 @@ impl<'a> Findings<'a> {
         at_target: bool,
         text: &Text,
     ) -> Result<(), RunError> {
+        let (_, position) = place_of(location_of(held, record), at_target);
+        let is_missing = matches!(code, Code::CnameTargetMissing | Code::TargetMissing);
+        if is_missing && text.help.is_empty() {
+            if let Some(help) = self.dot_help(held, record, position)? {
+                let asked = Text {
+                    message: String::from_str(self.alloc, text.message.as_str())?,
+                    help,
+                    note: String::new(self.alloc),
+                };
+                return self.show_spot(held, counted, record, position, &asked);
+            }
+        }
+        self.show_spot(held, counted, record, position, text)
+    }
+
+    /// Returns the question whether the target at a position lacks its final dot, if it looks so.
+    fn dot_help(
+        &mut self,
+        held: &SortedZone,
+        record: Option<usize>,
+        position: Position,
+    ) -> Result<Option<String>, RunError> {
+        let Some(found) = location_of(held, record) else {
+            return Ok(None);
+        };
+        if found.generated.is_some() {
+            return Ok(None);
+        }
+        match self.line_of(held, found.file, position)? {
+            Some(line) => {
+                let help = dot_question(self.alloc, line.as_slice(), position.column)?;
+                Ok(help)
+            }
+            None => Ok(None),
+        }
+    }
+
+    /// Shows a finding that was counted at a position of the file of a record, or of the first file.
+    fn show_spot(
+        &mut self,
+        held: &SortedZone,
+        counted: KeptFinding,
+        record: Option<usize>,
+        position: Position,
+        text: &Text,
+    ) -> Result<(), RunError> {
         let found = location_of(held, record);
-        let (file, position) = place_of(found, at_target);
+        let (file, _) = place_of(found, false);
         let name = held.file(file);
         let line = if self.reads_line(file) {
             self.lines.line(file, name, position.line)?
@@ -372,7 +571,8 @@ impl<'a> Findings<'a> {
             ..line_spot(name, file, position, octets)
         };
         let finding_text = subject.finding_text(text.message.as_str(), text.help.as_str());
-        self.reporter.show(counted, spot, code, finding_text)
+        self.reporter
+            .show(counted, spot, counted.code, finding_text)
     }
 
     /// Reports a finding at a record, or at its target, or at the first file's start.

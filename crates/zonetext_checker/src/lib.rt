@@ -3,9 +3,11 @@
 
 pub mod checker;
 mod entry_texts;
+mod file_sets;
 mod finding_reports;
 mod held_zone;
 mod hidden_zone;
+mod host_texts;
 mod length_texts;
 mod lone_rules;
 mod refusals;
@@ -13,5 +15,6 @@ mod refused_sets;
 mod rule_texts;
 mod scan;
 mod signature_groups;
+mod spelled_lines;
 mod spelled_names;
 mod spelled_owners;

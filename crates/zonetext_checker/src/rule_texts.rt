@@ -1,5 +1,6 @@
 //! The messages of findings about the records of a zone.
 use crate::held_zone::{HeldRecord, RecordLocation, SortedZone};
+use crate::host_texts::host_text;
 use dns_octets::AsOctets;
 use dns_wire::{DisplayWithDot, Name};
 use finding_codes::code::Code;
@@ -8,7 +9,7 @@ use finding_texts::similar::edits_between;
 use rdata_values::RecordType;
 use std::alloc::{AllocError, Global};
 use zone_rules::hosts::dname_over_host;
-use zone_rules::names::{is_name_below, view};
+use zone_rules::names::{is_name_below, is_same, parent, view};
 use zone_rules::services::is_alias_mode;
 use zone_rules::zone_records::OwnerBuffer;
 use zone_rules::{Finding, SortedSets, ZoneRecords, find_broken};
@@ -230,6 +231,14 @@ fn missing_target<Origin: AsOctets>(
         Code::TargetMissing | Code::CnameTargetMissing => {
             format!(in alloc; "{rtype} target {name} has no records in the zone")?
         }
+        Code::NsAddress
+            if records
+                .held
+                .records
+                .has_type(&view(&target), RecordType::CNAME) => {
+            let message = format!(in alloc; "name server {name} is a CNAME")?;
+            return Ok(Some(Text::new(alloc, message)));
+        }
         Code::NsAddress => format!(in alloc; "name server {name} has no address in the zone")?,
         _ => format!(in alloc; "name server {name} below the delegation has no address")?,
     };
@@ -304,6 +313,78 @@ fn first_cname<Origin: AsOctets>(
     }
 }
 
+/// Returns whether the owner of a CNAME may have records of a type besides it (RFC 4035 section 2.5).
+fn is_beside_cname(rtype: Option<RecordType>) -> bool {
+    matches!(
+        rtype,
+        Some(RecordType::CNAME | RecordType::RRSIG | RecordType::NSEC | RecordType::KEY)
+    )
+}
+
+/// Returns whether a record comes before another in the files. Generated ones have one position.
+fn comes_first(held: &SortedZone, place: usize, other: usize) -> bool {
+    match (held.location(place), held.location(other)) {
+        (Some(found), Some(next)) => {
+            is_before(found, next) || (!is_before(next, found) && place < other)
+        }
+        _ => false,
+    }
+}
+
+/// Returns whether a CNAME is the first of its name in the files, and the name has no records but other
+/// CNAMEs that must not be there.
+pub fn has_only_cnames<Origin: AsOctets>(records: &CheckedZone<'_, Origin>, place: usize) -> bool {
+    let held = records.held;
+    if place >= held.records.len() {
+        return false;
+    }
+    let (start, end) = held.records.places_at(place);
+    for other in start..end {
+        let rtype = held.rtype(other);
+        let is_earlier = rtype == Some(RecordType::CNAME) && comes_first(held, other, place);
+        if is_earlier || !is_beside_cname(rtype) {
+            return false;
+        }
+    }
+    true
+}
+
+/// Returns the message about a CNAME at the apex of the zone.
+fn apex_cname<Origin: AsOctets>(
+    alloc: Global,
+    records: &CheckedZone<'_, Origin>,
+    record: &HeldRecord<'_>,
+) -> Result<Option<Text>, AllocError> {
+    let (owner, held) = (view(&record.owner), &records.held.records);
+    let is_whole = held.has_type(&owner, RecordType::SOA) && held.has_type(&owner, RecordType::NS);
+    if !is_whole || !is_same(&owner, &view(records.zone)) {
+        return Ok(None);
+    }
+    let text = Text::worded(alloc, "CNAME at the apex, beside SOA and NS", None)?;
+    Ok(Some(text))
+}
+
+/// Returns the message about a record outside of the zone. If its owner has one label, its help has the
+/// name in the zone.
+fn outside_text<Origin: AsOctets>(
+    alloc: Global,
+    records: &CheckedZone<'_, Origin>,
+    record: &HeldRecord<'_>,
+) -> Result<Option<Text>, AllocError> {
+    let owner = view(&record.owner);
+    let is_one_label = parent(&owner).is_some_and(|above| above.len() == 1);
+    if !is_one_label || records.zone.len() == 1 {
+        return Ok(None);
+    }
+    let text = Text::worded(alloc, Code::Outside.message(), None)?;
+    let (owner, zone) = (
+        DisplayWithDot::new(&owner),
+        DisplayWithDot::new(records.zone),
+    );
+    let help = format!(in alloc; "without the dot: {owner}{zone}")?;
+    Ok(Some(Text { help, ..text }))
+}
+
 /// Returns the message about a second CNAME of a name, with the position of the first.
 fn second_cname<Origin: AsOctets>(
     alloc: Global,
@@ -339,7 +420,12 @@ fn own_text<Origin: AsOctets>(
         }
         Code::TargetCname if rule.way == 0 => cname_target(alloc, record),
         Code::TargetCname => dname_target(alloc, records, record),
-        Code::Cname => second_cname(alloc, records, record, place),
+        Code::Cname => match second_cname(alloc, records, record, place)? {
+            Some(text) => Ok(Some(text)),
+            None => apex_cname(alloc, records, record),
+        },
+        Code::HostName => host_text(alloc, record),
+        Code::Outside => outside_text(alloc, records, record),
         _ => Ok(None),
     }
 }
