@@ -194,7 +194,7 @@ def transfer_rows():
         + ';; Query time: 0 msec\n;; SERVER: 127.0.0.1#53(127.0.0.1) (TCP)\n;; XFR size: 4 records (messages 1, bytes 198)\n\n')
     put('plain', text(*lines))
     same('check of a transfer', run('check', '--zone', 'example.', 'sent'),
-         (0, '', 'sent:8:1: warning: example. SOA: duplicate record [duplicate]\n0 errors, 1 warning\n'))
+         (0, '', 'sent:8:1: warning: example. SOA: duplicate record; the first is at 4:1 [duplicate]\n0 errors, 1 warning\n'))
     same('records', run('records', 'sent'), (0, text(*lines, SOA), ''))
     same('canon', run('canon', 'sent'), (0, text(*lines), 'zonetext: 1 duplicate left out\n'))
     same('diff', run('diff', 'plain', 'sent'), (0, '', ''))

@@ -164,7 +164,7 @@ def check_options(program, folder):
         name = "a%20b.zone" if form == "sarif" else "a b.zone"
         same(f"--stdin-name, {form}", (status, name in out), (1, True))
         status, out, err = check(program, folder, form, ["missing.zone", "data.zone"])
-        same(f"missing file, {form}", (status, "missing.zone" in err, "data" in out), (3, True, True))
+        same(f"missing file, {form}", (status, "missing.zone" in out, "data" in out, "cannot read" in err), (3, True, True, False))
         if form == "sarif":
             json.loads(out)
         if form == "checkstyle":

@@ -11,6 +11,7 @@ with GNU parallel is run where `parallel` is installed.
 """
 import json
 import os
+import pty
 import shutil
 import subprocess
 import sys
@@ -26,6 +27,7 @@ UNDERLINE = GOOD + "_x A 192.0.2.3\n"
 LONG = GOOD + "w 7200 A 192.0.2.3\n"
 INCLUDER = GOOD + "$INCLUDE part\n"
 PART = "w A 192.0.2.3\n"
+REVERSE = "$TTL 60\n@ SOA ns.o. h.o. 1 7200 1800 1209600 3600\n@ NS ns.o.\n@ NS ns.p.\n"
 
 
 def zone(name, file, more=""):
@@ -82,7 +84,11 @@ ROWS = [
     ("no domain name in a list", {"l": "a..b f\n", "f": BAD}, "--zones l", 2, ["=", "zonetext: l:1:1: not a domain name 'a..b'"], None),
     ("no list", {}, "--zones l", 3, ["=", "zonetext: l: no such file"], None),
     ("a file that is not there", {"l": "a f\nb g\nc h\n", "f": GOOD, "h": BAD}, "--zones l", 3,
-     ["zonetext: g: ", "h: zone c: 1 error, 0 warnings", summary(3, 2, 0)], None),
+     ["=", "l:2:3: error: zone b.: cannot read 'g': no such file [file]", "g: zone b: 1 error, 0 warnings",
+      "h:7:5: error: w A: address: expected IPv4 address '192.0.2.256' [data]", "h: zone c: 1 error, 0 warnings", summary(3, 2, 0)], None),
+    ("a file that is not there, after blanks", {"l": "\n\t B.\t /no/such/file\r\n", "f": GOOD}, "--zones l", 3,
+     ["=", "l:2:7: error: zone B.: cannot read '/no/such/file': no such file [file]", "/no/such/file: zone B.: 1 error, 0 warnings",
+      summary(1, 1, 0)], None),
     ("an empty list", {"l": "\n"}, "--zones l", 2, ["=", "zonetext: l: no zone in it"], None),
     ("a zone twice in a list", {"l": "a f\nA. g\n", "f": BAD, "g": GOOD}, "--zones l", 1, [summary(2, 1, 0)], None),
     ("the same zone and file twice", {"l": "a f\nA. f\n", "f": BAD}, "--zones l", 1, [summary(1, 1, 0)], None),
@@ -130,7 +136,7 @@ ROWS = [
     ("check-names warn in the zone", {"c": zone("a", "f", "check-names warn;"), "f": UNDERLINE}, "--conf c", 0, ["f:7:1: warning: _x A:", summary(1, 0, 1)],
      ("named", True)),
     ("check-names ignore in options", {"c": zone("a", "f") + "options { check-names master ignore; };", "f": UNDERLINE}, "--conf c", 0,
-     [summary(1, 0, 1)], ("named", True)),
+     ["=", summary(1, 0, 0)], ("named", True)),
     ("check-names fail in the zone of a view that ignores", {"c": 'view "v" { check-names primary ignore; ' + zone("a", "f", "check-names fail;") + "};",
                                                              "f": UNDERLINE}, "--conf c", 1, [summary(1, 1, 0)], ("named", False)),
     ("--allow host-name", {"c": zone("a", "f"), "f": UNDERLINE}, "--allow host-name --conf c", 0, ["=", summary(1, 0, 0)], None),
@@ -170,6 +176,26 @@ ROWS = [
     ("a knot.conf", {"c": "zone:\n  - domain: a.\n    file: f\n", "f": GOOD}, "--conf c", 2,
      ["=", "zonetext: c:2:3: a knot.conf: check the folder of its ZONE.zone files '- domain:'"], None),
     ("no configuration", {}, "--conf c", 3, ["=", "zonetext: c: no such file"], ("named", False)),
+    ("a zone file that is missing", {"c": 'zone "a" {\n  type primary;\n  file "/no/such/zone";\n};\n' + zone("b", "f"), "f": BAD}, "--conf c", 3,
+     ["=", "c:3:8: error: zone a.: cannot read '/no/such/zone': no such file [file]", "/no/such/zone: zone a: 1 error, 0 warnings",
+      "f:7:5: error: w A: address: expected IPv4 address '192.0.2.256' [data]", "f: zone b: 1 error, 0 warnings", summary(2, 2, 0)],
+     ("named", False)),
+    ("a zone file that is a folder", {"c": zone("a", "d"), "d/x": ""}, "--conf c", 3,
+     ["=", "c:1:31: error: zone a.: cannot read 'd': is a directory [file]", "d: zone a: 1 error, 0 warnings", summary(1, 1, 0)],
+     ("named", False)),
+    ("a missing zone file, in an included file and a view", {"c": 'view "v" {\n include "d";\n};', "d": "\n" + zone("a.", "g")}, "--conf c", 3,
+     ["=", "d:2:32: error: zone a.: cannot read 'g': no such file [file]", "g: zone a.: 1 error, 0 warnings", summary(1, 1, 0)],
+     ("named", False)),
+    ("a missing zone file can't be allowed", {"c": zone("a", "g")}, "--allow file --errors-only --conf c", 3,
+     ["=", "c:1:31: error: zone a.: cannot read 'g': no such file [file]", "g: zone a: 1 error, 0 warnings", summary(1, 1, 0)], None),
+    ("files that are missing, as arguments", {"f": GOOD}, "--zone a g f h", 3,
+     ["=", "g:1:1: error: cannot read 'g': no such file [file]", "1 error, 0 warnings",
+      "h:1:1: error: cannot read 'h': no such file [file]", "1 error, 0 warnings", "3 files: 2 errors, 0 warnings"], None),
+    ("browsing domains of a reverse zone", {"c": zone("2.0.192.in-addr.arpa", "f"),
+                                            "f": REVERSE + "".join(f"{word}._dns-sd._udp PTR a_b.o.\n" for word in ("b", "db", "r", "dr", "lb"))},
+     "--conf c", 0, ["=", summary(1, 0, 0)], ("named", True)),
+    ("another owner of a reverse zone", {"c": zone("2.0.192.in-addr.arpa", "f"), "f": REVERSE + "1 PTR a_b.o.\n"},
+     "--conf c", 1, ["f:5:7: error: 1 PTR: not a host name: letters, digits and hyphens only 'a_b.o.' [host-name]", summary(1, 1, 0)], ("named", False)),
     # nsd.conf
     ("nsd.conf", {"c": "server:\n zonesdir: \"%d/z\"\nzone:\n name: a\n zonefile: \"a.zone\"\nzone: name: b\n zonefile: %d/b # c\n",
                   "z/a.zone": GOOD, "b": WARNED}, "--conf c", 0, [summary(2, 0, 1)], ("nsd", True)),
@@ -189,6 +215,13 @@ ROWS = [
     ("nsd: names of hosts are warnings", {"c": "server:\n zonesdir: %d\nzone:\n name: a\n zonefile: f\n", "f": UNDERLINE}, "--conf c", 0, [summary(1, 0, 1)],
      ("nsd", True)),
     ("nsd: no zone", {"c": "server:\n zonesdir: z\n"}, "--conf c", 2, ["=", "zonetext: c: no zone in it"], ("nsd", True)),
+    ("nsd: a zone file that is missing", {"c": "server:\n zonesdir: z\nzone:\n name: a\n zonefile: \"gone\"\nzone:\n name: b\n zonefile: f\n",
+                                          "z/f": GOOD}, "--conf c", 3,
+     ["=", "c:5:12: error: zone a.: cannot read 'z/gone': no such file [file]", "z/gone: zone a: 1 error, 0 warnings", summary(2, 1, 0)],
+     ("nsd", True)),
+    ("nsd: a missing file of a pattern", {"c": "pattern:\n name: p\n zonefile: %s.zone\nzone:\n name: a\n include-pattern: p\n"}, "--conf c", 3,
+     ["=", "c:3:12: error: zone a.: cannot read 'a.zone': no such file [file]", "a.zone: zone a: 1 error, 0 warnings", summary(1, 1, 0)],
+     ("nsd", True)),
     ("nsd: a zone twice", {"c": "zone:\n name: a\n zonefile: f\nzone: name: A.\n zonefile: g\n", "f": GOOD, "g": GOOD}, "--conf c", 2,
      ["=", "zonetext: c:4:1: zone A. is named twice; the first is at 1:1"], ("nsd", False)),
     # a directory in the place of the root
@@ -232,6 +265,13 @@ ROWS = [
                                "e": "$TTL 604800\n@ IN SOA ns.INVALID. h.invalid. 1 3600 7200 10 604800\n@ IN NS localhost.\n",
                                "o": "$TTL 604800\n@ IN SOA localhost.o. h.invalid. 1 3600 7200 10 604800\n@ NS ns.o.\n@ NS ns.p.\nns A 192.0.2.1\n"}, "--conf c", 0,
      ["o:2:41: warning", "o:2:46: warning", "o:2:49: warning", "o: zone o: 0 errors, 3 warnings", summary(4, 0, 3)], None),
+    # a file that is included twice
+    ("findings of a file that is included twice", {"f": GOOD + "$INCLUDE part\n$INCLUDE part\n", "part": "_w A 192.0.2.3\n"}, "--zone a f", 0,
+     ["=", "part:1:1: warning: _w A: not a host name: letters, digits and hyphens only [host-name]",
+      "part:1:1: warning: _w A: duplicate record; the first is at part:1:1 [duplicate]", "0 errors, 2 warnings"], None),
+    ("two findings of one place of a file that is included once", {"f": GOOD + "$INCLUDE part\n", "part": "$GENERATE 1-2 a_$ A 192.0.2.$\n"}, "--zone a f", 0,
+     ["=", "part:1:1: warning: a_1 A: $GENERATE 1: not a host name: letters, digits and hyphens only [host-name]",
+      "part:1:1: warning: a_2 A: $GENERATE 2: not a host name: letters, digits and hyphens only [host-name]", "0 errors, 2 warnings"], None),
     # together
     ("all together", {"c": zone("a", "f"), "l": "b f", "z/c.zone": GOOD, "f": GOOD}, "--conf c --zones l z", 0, ["=", summary(3, 0, 0)], None),
     ("--text with --conf", {"c": zone("a", "f")}, "--text --conf c", 2, [], None),
@@ -296,6 +336,66 @@ def run_machine(program):
         return "" if len(results) == 2 and run.returncode == 1 else f"{len(results)} results, status {run.returncode}"
 
 
+def run_missing(program):
+    """A zone file that is missing is a finding in each format, where the configuration names it."""
+    wanted = {
+        "json": '"file":"c","line":2,"column":7,"end_column":13,"severity":"error","code":"file","message":"zone a.: cannot read \'gone\': no such file"',
+        "sarif": '"ruleId":"file"',
+        "checkstyle": '<error line="2" column="7" severity="error" message="zone a.: cannot read \'gone\': no such file" source="file"/>',
+        "github": "::error file=c,line=2,col=7,endColumn=13,title=file::zone a.: cannot read 'gone': no such file",
+    }
+    with tempfile.TemporaryDirectory() as folder:
+        write_files(folder, {"c": 'zone "a" { type primary;\n file "gone"; };\n' + zone("b", "f"), "f": GOOD})
+        for form, text in wanted.items():
+            run = subprocess.run([program, "check", "--format", form, "--conf", "c"], cwd=folder, capture_output=True, text=True, check=False)
+            found = run.stdout.replace("&apos;", "'").replace("&#39;", "'")
+            if run.returncode != 3 or found.count(text) != 1:
+                return f"{form}: status {run.returncode}\n{found[-400:]}"
+        run = subprocess.run([program, "check", "--summary", "--conf", "c"], cwd=folder, capture_output=True, text=True, check=False)
+        return "" if run.returncode == 3 and run.stdout == "1\t1\terror\tfile\tc:2:7\n" else f"summary: {run.stdout}"
+
+
+def on_terminal(program, folder, words):
+    """The lines that `check` writes to a terminal."""
+    terminal, end = pty.openpty()
+    run = subprocess.run([program, "check", *words], cwd=folder, stdout=subprocess.DEVNULL, stderr=end, check=False)
+    os.close(end)
+    lines = b""
+    while True:
+        try:
+            part = os.read(terminal, 65536)
+        except OSError:
+            break
+        if not part:
+            break
+        lines += part
+    os.close(terminal)
+    return run.returncode, lines.decode().replace("\r", "").splitlines()
+
+
+def run_terminal(program):
+    """On a terminal, `check` of a file with an SOA and no zone ends with a line about the zone."""
+    note = "rules of the zone not checked: --zone ORIGIN or --zone-from-name"
+    with tempfile.TemporaryDirectory() as folder:
+        write_files(folder, {"f": GOOD, "g": PART})
+        for words, wanted in ((["f"], [note]), (["--zone", "a", "f"], []), (["-q", "g"], False), (["--text", "f"], []), (["--json", "f"], [])):
+            status, lines = on_terminal(program, folder, words)
+            found = [line for line in lines if "rules of the zone" in line]
+            if found != (wanted or []) or (wanted and (status, lines[-1:]) != (0, wanted)):
+                return f"{words}: status {status}, {lines}"
+    return ""
+
+
+def run_link(peers):
+    """Where the included file is not beside the link to a zone file, but beside the file, Knot finds it there too."""
+    if not peers or not shutil.which("kzonecheck"):
+        return None
+    with tempfile.TemporaryDirectory() as folder:
+        write_files(folder, {"z/a.zone": "-> ../real/f", "real/f": INCLUDER, "real/part": PART})
+        run = subprocess.run(["kzonecheck", "-o", "a.", "z/a.zone"], cwd=folder, capture_output=True, text=True, check=False)
+        return "" if run.returncode == 0 else f"kzonecheck: {run.stderr}{run.stdout}"
+
+
 def run_parallel(program):
     """The page's example with GNU parallel reports what `--zones` does."""
     if not shutil.which("parallel"):
@@ -321,7 +421,9 @@ def main(words):
     program = program_of(words)
     wrong = 0
     cases = [(row[0], lambda row=row: run_row(program, row, peers)) for row in ROWS]
-    cases += [("one SARIF log", lambda: run_machine(program)), ("GNU parallel", lambda: run_parallel(program))]
+    cases += [("one SARIF log", lambda: run_machine(program)),
+              ("a missing file in each format", lambda: run_missing(program)),
+              ("a terminal", lambda: run_terminal(program)), ("a link, by Knot", lambda: run_link(peers)), ("GNU parallel", lambda: run_parallel(program))]
     skipped = 0
     for name, case in cases:
         found = case()

@@ -32,6 +32,10 @@ from check_support import HERE, limit_stack, program_of
 
 FRONT = b"@ 60 SOA ns h 1 4 2 9 5\n@ NS ns\n@ NS ns.o.\nns A 192.0.2.1\n"
 ORIGIN = "example."
+# The lines of `=`, which are those of a zone with another name.
+USUAL = (b"$TTL 3600\n@ SOA ns1 hostmaster 2024010101 7200 3600 1209600 300\n@ NS ns1\n@ NS ns2\nns1 A 192.0.2.1\n"
+         b"ns2 A 192.0.2.2\n")
+USUAL_ORIGIN = "example.com."
 # Number of zones that are chosen at random, and length of the zone that is timed.
 ROUNDS, LENGTH = 200, 10_000_000
 if os.environ.get("UNPROVED"):
@@ -40,22 +44,24 @@ if os.environ.get("UNPROVED"):
 TIMES = 10
 # What each peer is run as, over a file; ldns-read-zone takes no origin, so that its file begins with one.
 PEERS = {
-    "named-checkzone": ["named-checkzone", "-q", ORIGIN],
-    "kzonecheck": ["kzonecheck", "-o", ORIGIN],
-    "nsd-checkzone": ["nsd-checkzone", ORIGIN],
+    "named-checkzone": ["named-checkzone", "-q", "%s"],
+    "kzonecheck": ["kzonecheck", "-o", "%s"],
+    "nsd-checkzone": ["nsd-checkzone", "%s"],
     "ldns-read-zone": ["ldns-read-zone"],
 }
 
 
 def rows():
-    """Name, octets, findings, what the peers say, and the lines if there are any, of each row."""
+    """Name, octets, origin, findings, what the peers say, and the lines if there are any, of each row."""
     with open(os.path.join(HERE, "zones.tsv"), encoding="utf-8") as table:
         for line in table:
             if not line.startswith("#"):
                 name, text, wanted, *rest = line.rstrip("\n").split("\t")
-                octets = unquote_to_bytes(text.removeprefix("+"))
+                octets = unquote_to_bytes(text[1:] if text[:1] in ("+", "=") else text)
+                front = FRONT if text.startswith("+") else USUAL if text.startswith("=") else b""
+                origin = USUAL_ORIGIN if text.startswith("=") else ORIGIN
                 lines = unquote_to_bytes(rest[len(PEERS)]).decode() if len(rest) > len(PEERS) else None
-                yield name, (FRONT if text.startswith("+") else b"") + octets, wanted, rest[:len(PEERS)], lines
+                yield name, front + octets, origin, wanted, rest[:len(PEERS)], lines
 
 
 def options_of(name):
@@ -73,17 +79,17 @@ def shown_rows():
                 yield name, options.split(), octets, wanted, int(hidden)
 
 
-def found(program, path, options):
+def found(program, path, options, origin=ORIGIN):
     """The status, and line, code, severity and text of each finding."""
-    words = [program, "check", "--zone", ORIGIN, *options, "--json", "--max", "0", path]
+    words = [program, "check", "--zone", origin, *options, "--json", "--max", "0", path]
     run = subprocess.run(words, capture_output=True, check=False, preexec_fn=limit_stack)
     findings = [json.loads(line) for line in run.stdout.splitlines()]
     return run.returncode, sorted((it["line"], it["code"], it["severity"], it["message"]) for it in findings)
 
 
-def printed(program, path, options):
+def printed(program, path, options, origin):
     """The lines of the findings, without the name of the file and without the last line."""
-    words = [program, "check", "--zone", ORIGIN, *options, "--max", "0", path]
+    words = [program, "check", "--zone", origin, *options, "--max", "0", path]
     run = subprocess.run(words, capture_output=True, text=True, check=False, preexec_fn=limit_stack)
     return "\n".join(line.removeprefix(path + ":") for line in run.stderr.splitlines()[:-1])
 
@@ -133,12 +139,12 @@ def is_wanted(wanted, status, findings):
                for want, has in pairs)
 
 
-def says(peer, path, octets):
+def says(peer, path, octets, origin):
     """What a peer says of a zone file: that it loads, or refuses it."""
     if peer == "ldns-read-zone":
         with open(path, "wb") as file:
-            file.write(b"$ORIGIN " + ORIGIN.encode() + b"\n" + octets)
-    run = subprocess.run(PEERS[peer] + [path], capture_output=True, check=False)
+            file.write(b"$ORIGIN " + origin.encode() + b"\n" + octets)
+    run = subprocess.run([word.replace("%s", origin) for word in PEERS[peer]] + [path], capture_output=True, check=False)
     return "refuses" if run.returncode else "loads"
 
 
@@ -250,21 +256,21 @@ def main(words):
     count = wrong = 0
     with tempfile.TemporaryDirectory() as folder:
         path = os.path.join(folder, "zone")
-        for name, octets, wanted, said, lines in rows():
+        for name, octets, origin, wanted, said, lines in rows():
             with open(path, "wb") as file:
                 file.write(octets)
             options = options_of(name)
-            status, findings = found(program, path, options)
+            status, findings = found(program, path, options, origin)
             count += 1
             if not is_wanted(wanted, status, findings):
                 wrong += 1
                 got = ", ".join(f"{severity} {line} {code}" for line, code, severity, _ in findings)
                 print(f"differs: {name}\n  wanted {wanted}\n  found  {got or 'good'}, status {status}")
-            if lines is not None and printed(program, path, options) != lines:
+            if lines is not None and printed(program, path, options, origin) != lines:
                 wrong += 1
-                print(f"differs: {name}\n  wanted {lines}\n  found  {printed(program, path, options)}")
+                print(f"differs: {name}\n  wanted {lines}\n  found  {printed(program, path, options, origin)}")
             for peer, column in zip(PEERS, said):
-                if peer in peers and says(peer, path, octets) != column:
+                if peer in peers and column != "-" and says(peer, path, octets, origin) != column:
                     wrong += 1
                     print(f"differs: {name}: {peer} does not say {column}")
         number, differing = check_shown(program, path)
