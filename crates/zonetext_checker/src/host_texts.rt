@@ -48,7 +48,7 @@ fn is_no_host(record: &HeldRecord<'_>, host: &[u8]) -> bool {
     }
 }
 
-/// Returns whether a finding that the name of a host is none is about the target of a record, and not
+/// Returns whether a finding about a name that must be a host name is about the target of a record, and not
 /// about its owner or a mail name.
 pub fn is_about_target(held: &SortedZone, place: usize) -> bool {
     let mut owner = OwnerBuffer::new();

@@ -67,7 +67,7 @@ pub fn escaped_word(alloc: Global, word: &[u8]) -> Result<String, AllocError> {
 /// What to write instead of a no-break space.
 pub const BLANK_HELP: &str = "U+00A0: write a blank";
 
-/// Returns the text about a word in the place of a type that is none, if it is known what it is: a type
+/// Returns the text about a word in the place of a type that isn't one, if it is known what it is: a type
 /// of PowerDNS, a negative number, or words with a no-break space between them.
 pub fn foreign_word(alloc: Global, token: &EntryToken<'_>) -> Result<Option<WordText>, AllocError> {
     if let Some(name) = powerdns_type(token.text) {
@@ -95,8 +95,8 @@ pub fn foreign_word(alloc: Global, token: &EntryToken<'_>) -> Result<Option<Word
     Ok(None)
 }
 
-/// Returns the first of some names, in capital letters, to which the fewest edits lead from a word that
-/// is none of them.
+/// Returns the first of some names, in capital letters, to which the fewest edits lead from a word. Returns
+/// nothing if the word is one of them.
 fn nearest_of(
     alloc: Global,
     word: &[u8],
