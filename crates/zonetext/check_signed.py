@@ -105,6 +105,11 @@ def turned(lines, pattern, old, new):
     return lines[:place] + [re.sub(old, new, lines[place], count=1)] + lines[place + 1:]
 
 
+def flipped(found):
+    """An NSEC3 up to its flags, with the other Opt-Out flag."""
+    return f"\tNSEC3\t1 {1 - int(found[1])} "
+
+
 def damaged(lines, is_hashed):
     """What is done to the records of a signed zone, and the codes that are then wanted, besides any others."""
     yield "no RRSIG", without(lines, r"^mail\S*\t.*\tRRSIG\tA "), {"unsigned"}
@@ -130,6 +135,9 @@ def damaged(lines, is_hashed):
     if is_hashed:
         yield "another next", turned(lines, chained, r" [0-9A-V]{31}[0-9A-V]\b", " " + 32 * "0"), {"nsec3-next"}
         yield "no parameters", without(lines, r"\tNSEC3PARAM\t"), {"no-nsec"}
+        yield "no name", without_all(lines, r"^mail\S*\t"), {"nsec3-extra"}
+        yield "no delegation", without_all(lines, r"^(ns\.)?safe\S*\t"), {"nsec3-extra"}
+        yield "another flag", turned(lines, chained, r"\tNSEC3\t1 ([01]) ", flipped), {"opt-out"}
     else:
         yield "another next", turned(lines, chained, r"\tNSEC\t\S+", f"\tNSEC\tzz.{ORIGIN}"), {"nsec-next"}
 

@@ -43,7 +43,7 @@ rejected : default_severity NoNs ≡ Error
 unfolding finding_rows
 rejected = refl
 
-own_message : finding_text Crlf ≡ codes "lines end in CR LF: Knot rejects the file"
+own_message : finding_text Crlf ≡ codes "lines end in CR LF"
 unfolding finding_rows
 own_message = refl
 

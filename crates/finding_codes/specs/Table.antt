@@ -3,7 +3,7 @@ use Rattle.std.specs.Prelude.{ℕ, List, [], ◌∷◌, codes, true, false, get_
 use denote.Enum.Declared.{tag_of}
 use Rattle.finding_codes.specs.contracts.code.Code.{the_type}
 use Rattle.finding_codes.specs.declared.code.Code.{Code}
-use Rattle.finding_codes.specs.declared.code.Code.TheVariants.{OpenQuote, OpenParenthesis, ClosingParenthesis, LoneReturn, BadEscape, Nul, ByteOrderMark, ControlZ, MaxEntry, Directive, Owner, Ttl, Class, RecordType, Data, Include, File, NoOwner, NoTtl, OtherClass, NoSoa, TwoSoas, NoNs, NsAddress, Cname, Dname, DsApex, WildcardNs, SoaNotApex, NsBesideDname, Nsec3Wildcard, BelowDname, Outside, MaxTtl, NoOrigin, HighOctet, ControlOctet, Crlf, NestedParentheses, LeadingParenthesis, AdjacentTokens, NoFinalNewline, RelativeOrigin, SoaMinimumTtl, IncludeTtl, MissingDot, GenerateDot, EmptyUri, TlsaLength, IpseckeyAlgorithm, OhttpValue, Glue, TargetCname, TargetMissing, HostName, Cds, TtlDiffers, Duplicate, NotAtApex, KeyProtocol, KeyAlgorithm, CnameTargetMissing, CnameLoop, TwoSpf, WeakDigest, SingleNs, Hidden, NoDnskey, Expired, ExpiresSoon, NotYetValid, RrsigTimes, RrsigSigner, RrsigLabels, OriginalTtl, RrsigTtl, Unsigned, NoKey, KeyMissing, RrsigKey, SignsNothing, OccludedDnssec, NoNsec, NsecNext, NsecTypes, DsWithoutNs, NoNsec3, Nsec3Next, Nsec3Types, Nsec3Owner, Nsec3Iterations, Nsec3Iterations50, Nsec3Iterations0, NsecTtl, CdsDelete, RrsigLength, KeyLength, Nsec3Extra, RrsigAlgorithm, OptOut, CdsKey, CdsDiffers, UnsignedApex, SpfType, NaptrRegexp, NaptrBoth, CaaTag, SoaMail, SoaTimers, ReverseName, WildcardInside, TargetAddress, TxtWords, CommentInData, PtrDot, TlsaField, CaaValue, Unportable, Spf, NullMx, ZonemdSerial, TlsaHost, SvcbAlias, KeyBesideCname, Exception, UnusedAllow}
+use Rattle.finding_codes.specs.declared.code.Code.TheVariants.{OpenQuote, OpenParenthesis, ClosingParenthesis, LoneReturn, BadEscape, Nul, ByteOrderMark, ControlZ, MaxEntry, Directive, Owner, Ttl, Class, RecordType, Data, Include, File, NoOwner, NoTtl, OtherClass, NoSoa, TwoSoas, NoNs, NsAddress, Cname, Dname, DsApex, WildcardNs, SoaNotApex, NsBesideDname, Nsec3Wildcard, BelowDname, Outside, MaxTtl, NoOrigin, HighOctet, ControlOctet, Crlf, NestedParentheses, LeadingParenthesis, AdjacentTokens, NoFinalNewline, RelativeOrigin, SoaMinimumTtl, IncludeTtl, MissingDot, GenerateDot, EmptyUri, TlsaLength, IpseckeyAlgorithm, OhttpValue, Glue, TargetCname, TargetMissing, HostName, Cds, TtlDiffers, Duplicate, NotAtApex, KeyProtocol, KeyAlgorithm, CnameTargetMissing, CnameLoop, TwoSpf, WeakDigest, SingleNs, Hidden, NoDnskey, Expired, ExpiresSoon, NotYetValid, RrsigTimes, RrsigSigner, RrsigLabels, OriginalTtl, RrsigTtl, Unsigned, NoKey, KeyMissing, RrsigKey, SignsNothing, OccludedDnssec, NoNsec, NsecNext, NsecTypes, DsWithoutNs, NoNsec3, Nsec3Next, Nsec3Types, Nsec3Owner, Nsec3Iterations, Nsec3Iterations50, Nsec3Iterations0, NsecTtl, CdsDelete, RrsigLength, KeyLength, Nsec3Extra, RrsigAlgorithm, OptOut, SpfType, NaptrRegexp, NaptrBoth, CaaTag, SoaMail, SoaTimers, ReverseName, WildcardInside, TargetAddress, TxtWords, CommentInData, PtrDot, TlsaField, CaaValue, Spf, NullMx, ZonemdSerial, TlsaHost, SvcbAlias, Exception, UnusedAllow}
 use Rattle.finding_codes.specs.declared.code.Scope.{Scope}
 use Rattle.finding_codes.specs.declared.code.Scope.TheVariants.{Text as OfText, Records as OfRecords, MaxTtl as OfTtl, Zone as OfZone, Signed as OfSigned}
 use Rattle.finding_codes.specs.declared.code.Severity.{Severity}
@@ -96,7 +96,7 @@ finding_rows =
     finding_row NoOrigin (codes "no-origin") Warning OfRecords none Whole (codes "relative name, and no origin: read below the root") ∷
     finding_row HighOctet (codes "high-octet") Warning OfText none Whole (codes "octet outside of ASCII") ∷
     finding_row ControlOctet (codes "control-octet") Warning OfText none Whole (codes "control octet") ∷
-    finding_row Crlf (codes "crlf") Warning OfText none Whole (codes "lines end in CR LF: Knot rejects the file") ∷
+    finding_row Crlf (codes "crlf") Warning OfText none Whole (codes "lines end in CR LF") ∷
     finding_row NestedParentheses (codes "nested-parentheses") Warning OfText none Whole (codes "parenthesis inside of parentheses") ∷
     finding_row LeadingParenthesis (codes "leading-parenthesis") Warning OfText none Whole (codes "entry begins with a parenthesis") ∷
     finding_row AdjacentTokens (codes "adjacent-tokens") Warning OfRecords none Whole (codes "no blank between two tokens") ∷
@@ -114,7 +114,7 @@ finding_rows =
     finding_row TargetCname (codes "target-cname") Warning OfZone none Target (codes "target is a CNAME or below a DNAME") ∷
     finding_row TargetMissing (codes "target-missing") Warning OfZone of_absence Target (codes "target is not in the zone") ∷
     finding_row HostName (codes "host-name") Warning OfZone none Whole (codes "not a host name: letters, digits and hyphens only") ∷
-    finding_row Cds (codes "cds") Warning OfZone of_absence Whole (codes "CDS or CDNSKEY of an algorithm without a DNSKEY") ∷
+    finding_row Cds (codes "cds") Warning OfZone of_absence Whole (codes "CDS or CDNSKEY without a DNSKEY") ∷
     finding_row TtlDiffers (codes "ttl-differs") Warning OfZone none Whole (codes "TTL is not that of the RRset") ∷
     finding_row Duplicate (codes "duplicate") Warning OfZone none Whole (codes "duplicate record") ∷
     finding_row NotAtApex (codes "not-at-apex") Warning OfZone none Whole (codes "type that belongs at the apex") ∷
@@ -156,12 +156,9 @@ finding_rows =
     finding_row CdsDelete (codes "cds-delete") Error OfSigned none Whole (codes "CDS or CDNSKEY asks to delete, and another asks for keys") ∷
     finding_row RrsigLength (codes "rrsig-length") Error OfSigned none Whole (codes "signature has another length than those of its algorithm") ∷
     finding_row KeyLength (codes "key-length") Error OfSigned none Whole (codes "key has another length than those of its algorithm") ∷
-    finding_row Nsec3Extra (codes "nsec3-extra") Error OfSigned of_absence OwnOwner (codes "NSEC3 of no name of the zone") ∷
+    finding_row Nsec3Extra (codes "nsec3-extra") Error OfSigned of_absence Whole (codes "NSEC3 of no name of the zone") ∷
     finding_row RrsigAlgorithm (codes "rrsig-algorithm") Error OfSigned of_absence Whole (codes "no signature of an algorithm that signs other RRsets") ∷
-    finding_row OptOut (codes "opt-out") Warning OfSigned none (Field 1) (codes "Opt-Out flag is not that of the others") ∷
-    finding_row CdsKey (codes "cds-key") Error OfSigned of_absence Whole (codes "no CDS, or no CDNSKEY, is of a DNSKEY of the zone") ∷
-    finding_row CdsDiffers (codes "cds-differs") Warning OfSigned of_absence Whole (codes "CDS and CDNSKEY are not of the same keys") ∷
-    finding_row UnsignedApex (codes "unsigned-apex") Warning OfSigned of_absence Whole (codes "zone has signatures, and its apex has none") ∷
+    finding_row OptOut (codes "opt-out") Warning OfSigned none Whole (codes "Opt-Out flag is not that of the others") ∷
     finding_row SpfType (codes "spf-type") Warning OfRecords none Whole (codes "type SPF, which no receiver looks up (RFC 7208): publish it as TXT") ∷
     finding_row NaptrRegexp (codes "naptr-regexp") Error OfRecords none (Field 4) (codes "not a substitution expression, as !ERE!REPLACEMENT!i") ∷
     finding_row NaptrBoth (codes "naptr-both") Warning OfRecords none (Field 5) (codes "both a regexp and a replacement") ∷
@@ -177,12 +174,10 @@ finding_rows =
     finding_row TlsaField (codes "tlsa-field") Warning OfRecords none (Field 0) (codes "certificate usage is not assigned (0 to 3, 255)") ∷
     finding_row CaaValue (codes "caa-value") Warning OfRecords none (Field 2) (codes "not a domain name with parameters, as ca.example; policy=ev") ∷
     finding_row Spf (codes "spf") Warning OfRecords none (Field 0) (codes "malformed term in an SPF record, which makes all of it an error") ∷
-    finding_row Unportable (codes "unportable") Warning OfRecords none Whole [] ∷
     finding_row NullMx (codes "null-mx") Warning OfZone none Target (codes "null MX beside another MX") ∷
     finding_row ZonemdSerial (codes "zonemd-serial") Warning OfZone none Whole (codes "serial of the ZONEMD is not that of the SOA") ∷
     finding_row TlsaHost (codes "tlsa-host") Warning OfZone of_absence Whole (codes "host of the TLSA has no address in the zone") ∷
     finding_row SvcbAlias (codes "svcb-alias") Warning OfZone none Target (codes "parameters of an alias (priority 0), which have no effect") ∷
-    finding_row KeyBesideCname (codes "key-beside-cname") Warning OfZone none OwnOwner (codes "KEY beside a CNAME: Knot, NSD and ldns reject it") ∷
     finding_row Exception (codes "exception") Error OfRecords none Whole [] ∷
     finding_row UnusedAllow (codes "unused-allow") Warning OfRecords none Whole [] ∷
     []

@@ -280,14 +280,6 @@ pub enum Code {
     /// The record is the only NSEC3 of its chain, of three or more, with or without Opt-Out (RFC 5155
     /// section 6).
     OptOut,
-    /// The record is the first CDS of the apex, and none is of a DNSKEY there, or the first CDNSKEY,
-    /// and none equals a DNSKEY (RFC 7344 section 4.1).
-    CdsKey,
-    /// The record is the first CDS of the apex, and the CDS and CDNSKEY records there are not of the
-    /// same keys (RFC 7344 section 4).
-    CdsDiffers,
-    /// The record is the SOA of a zone that has signatures elsewhere, and none at its apex.
-    UnsignedApex,
     /// A record has the type SPF, which no receiver looks up.
     SpfType,
     /// The regexp of a NAPTR is not a substitution expression.
@@ -318,8 +310,6 @@ pub enum Code {
     CaaValue,
     /// An SPF record has a malformed term.
     Spf,
-    /// A word that some name servers reject.
-    Unportable,
     /// The exchange of an MX is the root, and its owner has another MX.
     NullMx,
     /// The serial of a ZONEMD is not that of the SOA.
@@ -328,8 +318,6 @@ pub enum Code {
     TlsaHost,
     /// An SVCB or HTTPS in AliasMode has parameters, or is not alone.
     SvcbAlias,
-    /// The record is a KEY at a CNAME.
-    KeyBesideCname,
     /// An exception in a comment is malformed, or names an unknown code.
     Exception,
     /// An exception excepts no finding.

@@ -128,7 +128,7 @@ macro_rules! way {
     };
 }
 
-static TABLE: [Row; 126] = [
+static TABLE: [Row; 121] = [
     row!(OpenQuote => "open-quote", Error, Text, TEXT_FAULT, WHOLE, ""),
     row!(OpenParenthesis => "open-parenthesis", Error, Text, TEXT_FAULT, WHOLE, ""),
     row!(ClosingParenthesis => "closing-parenthesis", Error, Text, TEXT_FAULT, WHOLE, ""),
@@ -166,7 +166,7 @@ static TABLE: [Row; 126] = [
     row!(NoOrigin => "no-origin", Warning, Records, NONE, WHOLE, "relative name, and no origin: read below the root"),
     row!(HighOctet => "high-octet", Warning, Text, NONE, WHOLE, "octet outside of ASCII"),
     row!(ControlOctet => "control-octet", Warning, Text, NONE, WHOLE, "control octet"),
-    row!(Crlf => "crlf", Warning, Text, NONE, WHOLE, "lines end in CR LF: Knot rejects the file"),
+    row!(Crlf => "crlf", Warning, Text, NONE, WHOLE, "lines end in CR LF"),
     row!(NestedParentheses => "nested-parentheses", Warning, Text, NONE, WHOLE, "parenthesis inside of parentheses"),
     row!(LeadingParenthesis => "leading-parenthesis", Warning, Text, NONE, WHOLE, "entry begins with a parenthesis"),
     row!(AdjacentTokens => "adjacent-tokens", Warning, Records, NONE, WHOLE, "no blank between two tokens"),
@@ -184,7 +184,7 @@ static TABLE: [Row; 126] = [
     row!(TargetCname => "target-cname", Warning, Zone, NONE, TARGET, "target is a CNAME or below a DNAME"),
     row!(TargetMissing => "target-missing", Warning, Zone, ABSENCE, TARGET, "target is not in the zone"),
     row!(HostName => "host-name", Warning, Zone, NONE, WHOLE, "not a host name: letters, digits and hyphens only"),
-    row!(Cds => "cds", Warning, Zone, ABSENCE, WHOLE, "CDS or CDNSKEY of an algorithm without a DNSKEY"),
+    row!(Cds => "cds", Warning, Zone, ABSENCE, WHOLE, "CDS or CDNSKEY without a DNSKEY"),
     row!(TtlDiffers => "ttl-differs", Warning, Zone, NONE, WHOLE, "TTL is not that of the RRset"),
     row!(Duplicate => "duplicate", Warning, Zone, NONE, WHOLE, "duplicate record"),
     row!(NotAtApex => "not-at-apex", Warning, Zone, NONE, WHOLE, "type that belongs at the apex"),
@@ -226,12 +226,9 @@ static TABLE: [Row; 126] = [
     row!(CdsDelete => "cds-delete", Error, Signed, NONE, WHOLE, "CDS or CDNSKEY asks to delete, and another asks for keys"),
     row!(RrsigLength => "rrsig-length", Error, Signed, NONE, WHOLE, "signature has another length than those of its algorithm"),
     row!(KeyLength => "key-length", Error, Signed, NONE, WHOLE, "key has another length than those of its algorithm"),
-    row!(Nsec3Extra => "nsec3-extra", Error, Signed, ABSENCE, OWNER, "NSEC3 of no name of the zone"),
+    row!(Nsec3Extra => "nsec3-extra", Error, Signed, ABSENCE, WHOLE, "NSEC3 of no name of the zone"),
     row!(RrsigAlgorithm => "rrsig-algorithm", Error, Signed, ABSENCE, WHOLE, "no signature of an algorithm that signs other RRsets"),
-    row!(OptOut => "opt-out", Warning, Signed, NONE, FIELD_1, "Opt-Out flag is not that of the others"),
-    row!(CdsKey => "cds-key", Error, Signed, ABSENCE, WHOLE, "no CDS, or no CDNSKEY, is of a DNSKEY of the zone"),
-    row!(CdsDiffers => "cds-differs", Warning, Signed, ABSENCE, WHOLE, "CDS and CDNSKEY are not of the same keys"),
-    row!(UnsignedApex => "unsigned-apex", Warning, Signed, ABSENCE, WHOLE, "zone has signatures, and its apex has none"),
+    row!(OptOut => "opt-out", Warning, Signed, NONE, WHOLE, "Opt-Out flag is not that of the others"),
     row!(SpfType => "spf-type", Warning, Records, NONE, WHOLE, "type SPF, which no receiver looks up (RFC 7208): publish it as TXT"),
     row!(NaptrRegexp => "naptr-regexp", Error, Records, NONE, FIELD_4, "not a substitution expression, as !ERE!REPLACEMENT!i"),
     row!(NaptrBoth => "naptr-both", Warning, Records, NONE, FIELD_5, "both a regexp and a replacement"),
@@ -247,12 +244,10 @@ static TABLE: [Row; 126] = [
     row!(TlsaField => "tlsa-field", Warning, Records, NONE, FIELD_0, "certificate usage is not assigned (0 to 3, 255)"),
     row!(CaaValue => "caa-value", Warning, Records, NONE, FIELD_2, "not a domain name with parameters, as ca.example; policy=ev"),
     row!(Spf => "spf", Warning, Records, NONE, FIELD_0, "malformed term in an SPF record, which makes all of it an error"),
-    row!(Unportable => "unportable", Warning, Records, NONE, WHOLE, ""),
     row!(NullMx => "null-mx", Warning, Zone, NONE, TARGET, "null MX beside another MX"),
     row!(ZonemdSerial => "zonemd-serial", Warning, Zone, NONE, WHOLE, "serial of the ZONEMD is not that of the SOA"),
     row!(TlsaHost => "tlsa-host", Warning, Zone, ABSENCE, WHOLE, "host of the TLSA has no address in the zone"),
     row!(SvcbAlias => "svcb-alias", Warning, Zone, NONE, TARGET, "parameters of an alias (priority 0), which have no effect"),
-    row!(KeyBesideCname => "key-beside-cname", Warning, Zone, NONE, OWNER, "KEY beside a CNAME: Knot, NSD and ldns reject it"),
     row!(Exception => "exception", Error, Records, NONE, WHOLE, ""),
     row!(UnusedAllow => "unused-allow", Warning, Records, NONE, WHOLE, ""),
 ];
@@ -324,7 +319,7 @@ pub fn ways() -> &'static [Way; 11]
 }
 
 /// Returns the rows of all codes, in their order.
-pub fn rows() -> &'static [Row; 126]
+pub fn rows() -> &'static [Row; 121]
     ensures { map row_seen result.now ≡ finding_rows }
 {
     &TABLE

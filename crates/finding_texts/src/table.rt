@@ -108,9 +108,6 @@ pub fn summary_of(code: Code) -> &'static str {
         Code::Nsec3Extra => "An NSEC3 is of no name of the zone",
         Code::RrsigAlgorithm => "An RRset lacks a signature of an algorithm that signs others",
         Code::OptOut => "The Opt-Out flag of an NSEC3 is not that of all others of its chain",
-        Code::CdsKey => "No CDS, or no CDNSKEY, is of a DNSKEY of the apex",
-        Code::CdsDiffers => "The CDS and CDNSKEY records are not of the same keys",
-        Code::UnsignedApex => "A zone has signatures, and its apex has none",
         Code::SpfType => "A record has the type SPF",
         Code::NaptrRegexp => "The regexp of a NAPTR is not a substitution expression",
         Code::NaptrBoth => "A NAPTR has both a regexp and a replacement",
@@ -129,13 +126,11 @@ pub fn summary_of(code: Code) -> &'static str {
         Code::CaaValue =>
             "The value of a CAA is not of the form of its tag, or its flags are unknown",
         Code::Spf => "An SPF record has a term that is neither a mechanism nor a modifier",
-        Code::Unportable => "A word is one that some name servers reject",
         Code::NullMx => "The exchange of an MX is the root, and its owner has another MX",
         Code::ZonemdSerial => "The serial of a ZONEMD is not that of the SOA",
         Code::TlsaHost => "The host of a TLSA has no address in the zone",
         Code::SvcbAlias =>
             "An SVCB or HTTPS of priority 0 has parameters, or its name has others of the type",
-        Code::KeyBesideCname => "A KEY is at a CNAME",
         Code::Exception => "An exception in a comment is malformed, or names an unknown code",
         Code::UnusedAllow => "An exception in a comment excepts no finding",
     }
@@ -334,12 +329,6 @@ pub fn text_of(code: Code) -> &'static str {
             "Each RRset has a signature of each algorithm that signs the zone (RFC 4035 section 2.2). This binds signers: a validator accepts any signature that it can verify (RFC 6840 section 5.11).",
         Code::OptOut =>
             "A chain may mix them (RFC 5155 section 6). One flag that differs from all others is rarely meant.",
-        Code::CdsKey =>
-            "The parent would publish DS records by which the zone could not be validated (RFC 7344 section 4.1).",
-        Code::CdsDiffers =>
-            "A zone with both has a CDS for each CDNSKEY, and the other way round (RFC 7344 section 4).",
-        Code::UnsignedApex =>
-            "A zone is signed if its SOA or its NS is. Sign it again, or remove the signatures.",
         Code::SpfType => "No receiver looks it up: SPF is published as TXT (RFC 7208 section 3.1).",
         Code::NaptrRegexp =>
             "It is empty, or as !ERE!REPLACEMENT!FLAGS: its first octet delimits three parts, and the last is empty or i (RFC 3402 section 3.2). BIND rejects another one.",
@@ -368,8 +357,6 @@ pub fn text_of(code: Code) -> &'static str {
             "A certification authority that can't parse issue or issuewild issues no certificate. Their value is a domain name or nothing, and after a semicolon parameters NAME=VALUE with semicolons between them (RFC 8659 sections 4.2 and 4.3). So is that of issuemail (RFC 9495) and issuevmc. The value of iodef is a URL of mailto, http or https (RFC 8659 section 4.4). The flags are 0, or 128 for a tag that must be understood (section 4.1).",
         Code::Spf =>
             "A receiver that finds a malformed term treats the whole record as an error, and mail may be rejected (RFC 7208 section 4.6). Mechanisms are all, include, a, mx, ptr, ip4, ip6 and exists, with a colon before their domain or address. Modifiers are NAME=VALUE, as redirect=DOMAIN. Domains have a dot, or end with a macro. The text of a record of several strings is not looked at.",
-        Code::Unportable =>
-            "The record is read as it is meant. Write what the help says, which all name servers read.",
         Code::NullMx =>
             "An MX whose exchange is the root says that the name receives no mail (RFC 7505 section 3). Such a name must have no other MX: senders may reject its mail, or use the other one. Remove one of them.",
         Code::ZonemdSerial =>
@@ -378,8 +365,6 @@ pub fn text_of(code: Code) -> &'static str {
             "The owner of a TLSA is a port, a transport and the name of a host (RFC 6698 section 3). This host is in the zone, and has no A, AAAA or CNAME there. A wildcard above it gives it none: the TLSA makes the name exist (RFC 4592 section 2.2.3).",
         Code::SvcbAlias =>
             "A record of priority 0 is an alias of the service: it has no parameters, and is the only one of its type. Clients ignore its parameters, and the records of other priorities beside it (RFC 9460 sections 2.4.1 and 2.4.2). Of two aliases they use one at random.",
-        Code::KeyBesideCname =>
-            "RFC 4035 section 2.5 allows it, and BIND loads it. Knot, NSD and ldns reject the file.",
         Code::Exception =>
             "It is written as '; zonetext: allow CODE, CODE' in a comment of the entry whose findings it excepts. A second semicolon begins a remark.",
         Code::UnusedAllow =>
@@ -513,15 +498,9 @@ pub fn example_of(code: Code) -> &'static str {
         Code::Nsec3Extra =>
             "@ NSEC3PARAM 1 0 0 -\n0P9MHAVEQVM6T7VBL5LOP2U3T2RP3TOM NSEC3 1 0 0 - 0P9MHAVEQVM6T7VBL5LOP2U3T2RP3TON A RRSIG",
         Code::RrsigAlgorithm =>
-            "b A 192.0.2.2\nb RRSIG A 14 2 60 20260601000000 20251201000000 1 example. AA==",
+            "@ DNSKEY 256 3 12 BQAA\na A 192.0.2.2\na RRSIG A 12 2 60 20260601000000 20251201000000 2316 example. AQIDBAU=",
         Code::OptOut =>
             "@ NSEC3PARAM 1 0 0 -\n0P9MHAVEQVM6T7VBL5LOP2U3T2RP3TOM NSEC3 1 0 0 - 2P9MHAVEQVM6T7VBL5LOP2U3T2RP3TOM A\n2P9MHAVEQVM6T7VBL5LOP2U3T2RP3TOM NSEC3 1 0 0 - 4P9MHAVEQVM6T7VBL5LOP2U3T2RP3TOM A\n4P9MHAVEQVM6T7VBL5LOP2U3T2RP3TOM NSEC3 1 1 0 - 0P9MHAVEQVM6T7VBL5LOP2U3T2RP3TOM A",
-        Code::CdsKey =>
-            "@ CDS 1 13 2 0000000000000000000000000000000000000000000000000000000000000000",
-        Code::CdsDiffers =>
-            "@ CDS 1 13 2 0000000000000000000000000000000000000000000000000000000000000000\n@ CDNSKEY 257 3 13 AA==",
-        Code::UnsignedApex =>
-            "a A 192.0.2.2\na RRSIG A 13 2 60 20260601000000 20251201000000 1037 example. AA==",
         Code::SpfType => "a SPF \"v=spf1 -all\"",
         Code::NaptrRegexp => "a NAPTR 1 1 \"u\" \"x\" \"!a!b\" .",
         Code::NaptrBoth => "a NAPTR 1 1 \"u\" \"x\" \"!a!b!\" b.example.",
@@ -538,13 +517,11 @@ pub fn example_of(code: Code) -> &'static str {
             "_25._tcp.ns TLSA 4 1 1 0000000000000000000000000000000000000000000000000000000000000000",
         Code::CaaValue => "@ CAA 0 issue \"ca_example\"",
         Code::Spf => "a TXT \"v=spf1 ip4:192.0.2.300 -all\"",
-        Code::Unportable => "a=b TXT \"c\"",
         Code::NullMx => "a MX 0 .\na MX 10 ns",
         Code::ZonemdSerial => "@ ZONEMD 2 1 240 000000000000000000000000",
         Code::TlsaHost =>
             "_443._tcp.a TLSA 3 1 1 0123456789012345678901234567890123456789012345678901234567890123",
         Code::SvcbAlias => "a HTTPS 0 o. alpn=h2",
-        Code::KeyBesideCname => "a CNAME ns\na KEY 256 3 8 AQID",
         Code::Exception => "a A 192.0.2.2 ; zonetext: allow tll",
         Code::UnusedAllow => "a A 192.0.2.2 ; zonetext: allow host-name",
     }

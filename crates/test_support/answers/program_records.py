@@ -16,9 +16,9 @@ RULES = {
 }
 SECURITY = {
     "expired", "expires-soon", "not-yet-valid", "rrsig-times", "rrsig-signer", "rrsig-labels", "rrsig-length", "original-ttl",
-    "rrsig-ttl", "unsigned", "no-key", "key-missing", "rrsig-key", "key-length", "signs-nothing",
+    "rrsig-ttl", "unsigned", "no-key", "key-missing", "rrsig-key", "rrsig-algorithm", "key-length", "signs-nothing",
     "occluded-dnssec", "no-nsec", "nsec-next", "nsec-types", "no-nsec3", "nsec3-next", "nsec3-types",
-    "nsec3-owner", "nsec3-iterations", "nsec3-iterations-50", "nsec3-iterations-0", "nsec-ttl", "cds-delete",
+    "nsec3-owner", "nsec3-iterations", "nsec3-iterations-50", "nsec3-iterations-0", "nsec-ttl", "nsec3-extra", "opt-out", "cds-delete",
 }
 # Codes that are not shown at a word with another one.
 BEATEN = {"ns-address": b"target-cname", "wildcard-inside": b"host-name"}

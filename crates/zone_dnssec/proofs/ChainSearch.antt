@@ -22,7 +22,7 @@ any_more test xs i d lt =
 
 -- ---- a loop that looks for a record
 
-or_true : (b : Bool) → true ≡ (b || true)
+pub or_true : (b : Bool) → true ≡ (b || true)
 or_true true = refl
 or_true false = refl
 

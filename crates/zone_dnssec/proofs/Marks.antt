@@ -1,5 +1,5 @@
 -- Marks of records.
-use Rattle.std.proofs.Common.{ℕ, ◌≡◌, ◌≢◌, ◌+◌, ◌<◌, ◌≤◌, ◌⊎◌, inl, inr, Bool, true, false, Option, Some, None, List, ◌++◌, length, take, get_or, set, eqb, leb, ltb, replicate, refl, sym, ap, subst, ◌∙◌, arith}
+use Rattle.std.proofs.Common.{ℕ, ◌≡◌, ◌≢◌, ◌+◌, ◌<◌, ◌≤◌, ◌⊎◌, inl, inr, Bool, true, false, Option, Some, None, List, ◌++◌, length, take, get_or, set, leb, ltb, replicate, refl, sym, ap, subst, ◌∙◌, arith}
 use Rattle.std.specs.Prelude.{◌&&◌, ◌||◌, slice_get}
 use Rattle.std.specs.Option.{option_map}
 use Rattle.std.specs.List.{list_any}
@@ -13,20 +13,14 @@ use Rattle.dns_wire.specs.Order.{same_name}
 use Rattle.zone_record.specs.declared.record.Record.{Record}
 use Rattle.zone_rules.specs.Searches.{AreOwnedFrom}
 use Rattle.zone_rules.specs.Zones.{as_listed}
-use Rattle.zone_dnssec.specs.UnmatchedLinks.{shows_hashed, AreMarks, MarksOwners, MarksWithin}
+use Rattle.zone_dnssec.specs.UnmatchedLinks.{shows_hashed, AreHashMarks, MarksOwners, MarksWithin}
 use Rattle.zone_dnssec.specs.ZoneViews.{ZoneView}
-use Rattle.zone_dnssec.proofs.ChainSearch.{any_more, or_false}
-
-some_is : {X : Type 0} {x y : X} → Some x ≡ Some y → x ≡ y
-some_is f = cc
+use Rattle.zone_dnssec.proofs.OwnedRecords.{some_is}
+use Rattle.zone_dnssec.proofs.ChainSearch.{any_more, or_false, or_true}
 
 and_false : (b : Bool) → (b && false) ≡ false
 and_false true = refl
 and_false false = refl
-
-or_true : (b : Bool) → true ≡ (b || true)
-or_true true = refl
-or_true false = refl
 
 -- ---- indexes from one up to another
 
@@ -147,14 +141,14 @@ module _ {N O : Type 0} (records : List (Record N O)) where
 -- ---- the marks of a chain
 
 module _ {N O M P : Type 0} (zone : ZoneView N O) (chain : Record M P) where
-  pub unset_marks : (marks : List Bool) (count : ℕ) → marks ≡ replicate count false → count ≡ length zone.records → AreMarks zone chain (take 0 zone.records) marks
+  pub unset_marks : (marks : List Bool) (count : ℕ) → marks ≡ replicate count false → count ≡ length zone.records → AreHashMarks zone chain (take 0 zone.records) marks
   unset_marks marks count e size = record {
     size = ap length e ∙ length-replicate count false ∙ size;
     each = λ i d x lt. ap (λ l. get_or l i d) e ∙ get_or-replicate count i false d (omega (arith, lt, size));
   }
 
-  pub more_marks : (place : ℕ) (old new : List Bool) (r : Record N O) → place < length zone.records → get_or zone.records place r ≡ r → AreMarks zone chain (take place zone.records) old
-      → MarksOwners zone.records (λ owner. shows_hashed zone chain owner r) old new → AreMarks zone chain (take (place + 1) zone.records) new
+  pub more_marks : (place : ℕ) (old new : List Bool) (r : Record N O) → place < length zone.records → get_or zone.records place r ≡ r → AreHashMarks zone chain (take place zone.records) old
+      → MarksOwners zone.records (λ owner. shows_hashed zone chain owner r) old new → AreHashMarks zone chain (take (place + 1) zone.records) new
   more_marks place old new r lt is h m = record {
     size = m.size ∙ h.size;
     each = λ i d e less.
@@ -164,25 +158,14 @@ module _ {N O M P : Type 0} (zone : ZoneView N O) (chain : Record M P) where
   }
 
   pub more_marks_of : {R S : Type 0} (place : ℕ) (old new : List Bool) (found : Record R S) → place < length zone.records → Some found ≡ option_map as_listed (slice_get zone.records place)
-      → AreMarks zone chain (take place zone.records) old → MarksOwners zone.records (λ owner. shows_hashed zone chain owner found) old new → AreMarks zone chain (take (place + 1) zone.records) new
+      → AreHashMarks zone chain (take place zone.records) old → MarksOwners zone.records (λ owner. shows_hashed zone chain owner found) old new → AreHashMarks zone chain (take (place + 1) zone.records) new
   more_marks_of {R = R} {S = S} place old new found lt e h m = by (slice_get zone.records place) refl e
     where
-      by : (o : Option (Record N O)) → slice_get zone.records place ≡ o → Some found ≡ option_map as_listed o → AreMarks zone chain (take (place + 1) zone.records) new
+      by : (o : Option (Record N O)) → slice_get zone.records place ≡ o → Some found ≡ option_map as_listed o → AreHashMarks zone chain (take (place + 1) zone.records) new
       by None q k = cc
       by (Some r) q k =
           more_marks place old new r lt (get_or_from_slice_get zone.records place r r q) h
           (subst (λ x. MarksOwners zone.records (λ owner. shows_hashed zone chain owner x) old new) (some_is k) m)
-
-  pub mark_is : {R S : Type 0} (place : ℕ) (marks : List Bool) (found : Record R S) → place < length zone.records → Some found ≡ option_map as_listed (slice_get zone.records place) → AreMarks zone chain zone.records marks
-      → get_or marks place false ≡ list_any (shows_hashed zone chain found.owner) zone.records
-  mark_is {R = R} {S = S} place marks found lt e h = by (slice_get zone.records place) refl e
-    where
-      by : (o : Option (Record N O)) → slice_get zone.records place ≡ o → Some found ≡ option_map as_listed o → get_or marks place false ≡ list_any (shows_hashed zone chain found.owner) zone.records
-      by None q k = cc
-      by (Some r) q k =
-          h.each place false r lt
-          ∙ (λ i. list_any (shows_hashed zone chain (get_or_from_slice_get zone.records place r r q i).owner) zone.records)
-          ∙ (λ i. list_any (shows_hashed zone chain (sym (some_is k) i).owner) zone.records)
 
 -- the items of a list before others
 pub taken_whole : (n : ℕ) (xs ys : List Bool) → n ≡ length xs → take n (xs ++ ys) ≡ xs

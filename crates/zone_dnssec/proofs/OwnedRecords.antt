@@ -16,7 +16,7 @@ use Rattle.zone_dnssec.specs.declared.owned.Wanted.{Wanted}
 use Rattle.zone_dnssec.specs.declared.owned.Wanted.TheVariants.{Soa, Signature, FittingSignature, Ttl, Unlisted, KeyRequest, Chain, MoreThanHashes, ValidSignature, SignatureBy, KeyWith}
 use Rattle.zone_dnssec.proofs.ChainLinks.{get_some}
 
-some_is : {X : Type 0} {x y : X} → Some x ≡ Some y → x ≡ y
+pub some_is : {X : Type 0} {x y : X} → Some x ≡ Some y → x ≡ y
 some_is f = cc
 
 -- ---- a record of a list, with its octets in other types

@@ -13,11 +13,15 @@ use Rattle.zone_dnssec.specs.KeyLengths.{has_key_length}
 use Rattle.zone_dnssec.specs.NsecChain.{comes_after, next_name}
 use Rattle.zone_dnssec.specs.Nsec3Chain.{link_after, link_before}
 use Rattle.zone_dnssec.specs.NsecTypes.{is_unlisted, may_be_listed}
+use Rattle.zone_dnssec.specs.OptOutFlags.{is_flag_lone}
 use Rattle.zone_dnssec.specs.Parameters.{has_named_chain}
 use Rattle.zone_dnssec.specs.SignatureFields.{label_count}
 use Rattle.zone_dnssec.specs.SignatureTimes.{has_passed, seconds_between}
 use Rattle.zone_dnssec.specs.SignedSets.{has_signature, must_be_signed, signs_nothing}
+use Rattle.zone_dnssec.specs.SigningAlgorithms.{signer_with, signs_keys_alone}
+use Rattle.zone_dnssec.specs.UnmatchedLinks.{shows_name}
 use Rattle.zone_dnssec.specs.ZoneKeys.{modulus, modulus_tag, sum_tag}
+use Rattle.zone_dnssec.specs.ZoneViews.{zone_with}
 
 -- ---- times: after 4294967295 comes 0 (RFC 1982 section 3.1)
 
@@ -272,3 +276,42 @@ short_p256_row = refl
 
 other_algorithm_row : has_key_length 12 [] ≡ true
 other_algorithm_row = refl
+
+-- ---- Opt-Out flags of a chain
+
+abbrev flagged : ℕ → ℕ → Record ℕ ℕ
+flagged letter flags = at ((letter ∷ []) ∷ origin) Rtype.nsec3 (1 ∷ flags ∷ 0 ∷ 0 ∷ 0 ∷ 0 ∷ [])
+
+one_flag_row : is_flag_lone (parameters 1 0) true (flagged 98 1 ∷ flagged 99 0 ∷ flagged 100 0 ∷ []) ≡ true
+unfolding type_shapes
+one_flag_row = refl
+
+two_links_row : is_flag_lone (parameters 1 0) true (flagged 98 1 ∷ flagged 99 0 ∷ []) ≡ false
+unfolding type_shapes
+two_links_row = refl
+
+two_flags_row : is_flag_lone (parameters 1 0) true (flagged 98 1 ∷ flagged 99 1 ∷ flagged 100 0 ∷ flagged 101 0 ∷ []) ≡ false
+unfolding type_shapes
+two_flags_row = refl
+
+-- ---- records that show a name
+
+shown_row : shows_name (zone_with origin delegated) (at sub Rtype.ns []) ≡ true
+shown_row = refl
+
+occluded_name_row : shows_name (zone_with origin delegated) (at (codes "ns" ∷ sub) Rtype.a []) ≡ false
+occluded_name_row = refl
+
+renamed_name_row : shows_name (zone_with origin (at sub Rtype.dname [] ∷ [])) (at (codes "ns" ∷ sub) Rtype.a []) ≡ false
+renamed_name_row = refl
+
+-- ---- algorithms of keys
+
+lone_algorithm_row : signs_keys_alone (signer_with 13 true true ∷ signer_with 8 true false ∷ []) 8 ≡ true
+lone_algorithm_row = refl
+
+other_algorithm_signs_row : signs_keys_alone (signer_with 13 true true ∷ signer_with 8 true false ∷ []) 13 ≡ false
+other_algorithm_signs_row = refl
+
+standby_row : signs_keys_alone (signer_with 8 false false ∷ []) 8 ≡ false
+standby_row = refl

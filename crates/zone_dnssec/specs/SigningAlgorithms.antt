@@ -2,7 +2,7 @@
 use Rattle.std.specs.Prelude.{ℕ, nat_eq, ◌==◌, ◌&&◌, ◌||◌, not, if◌then◌else◌, Bool, true, false, Option, List, [], ◌∷◌, slice_index}
 use Rattle.std.specs.Cmp.Lexicographic.{pointwise}
 use Rattle.std.specs.List.{find, flat_map, list_any}
-use Rattle.std.specs.Option.{option_map_or}
+use Rattle.std.specs.Option.{option_map, option_map_or}
 use Rattle.dns_wire.specs.Order.{same_name}
 use Rattle.rdata_values.specs.Rtype as Rtype
 use Rattle.rdata_values.specs.declared.types.RecordType.{RecordType}
@@ -94,6 +94,10 @@ has_signature_by keys rtype name records algorithm = list_any (λ r. same_name r
 -- an algorithm signs others than DNSKEYs, and not an RRset
 abbrev pub is_missed : {N O : Type 0} → List Key → RecordType → List (List ℕ) → List (Record N O) → Signer → Bool
 is_missed keys rtype name records s = s.signs_others && not (has_signature_by keys rtype name records s.algorithm)
+
+-- the first such algorithm, of the RRset of a record
+abbrev pub missed_algorithm : {N O M P : Type 0} → List Key → List Signer → List (Record N O) → Record M P → Option ℕ
+missed_algorithm keys signers records r = option_map (λ s. s.algorithm) (find (is_missed keys (type_of r) r.owner records) signers)
 
 -- the record is the first of a signed RRset that lacks a signature by such an algorithm
 abbrev pub lacks_algorithm : {N O M P : Type 0} → List Key → List Signer → List (List ℕ) → List (Record N O) → Option (Record M P) → Record M P → Bool

@@ -1,14 +1,14 @@
 //! Checks that each algorithm that signs a zone signs each of its RRsets (RFC 4035 section 2.2).
 ghost use Rattle.std.specs.Prelude.{◌≡◌, ◌<◌, ◌++◌, IfOk, OnOk, length, slice_index, true, false};
 ghost use Rattle.std.specs.List.{flat_map, list_any};
-ghost use Rattle.zone_dnssec.specs.SigningAlgorithms.{covers_by, covers_signed_set, fits_for_set, has_signature_by, has_valid_signature, is_by_algorithm, is_first_with, is_key_with, is_missed, is_of_lone_algorithm, lacks_algorithm, signers_by, signs_any_others, signs_keys_alone, signs_set, validly_covers, zone_signers};
+ghost use Rattle.zone_dnssec.specs.SigningAlgorithms.{covers_by, covers_signed_set, fits_for_set, has_signature_by, has_valid_signature, is_by_algorithm, missed_algorithm, is_first_with, is_key_with, is_missed, is_of_lone_algorithm, lacks_algorithm, signers_by, signs_any_others, signs_keys_alone, signs_set, validly_covers, zone_signers};
 ghost use Rattle.zone_dnssec.specs.Subjects.{has_octets_in, signs_set_in, HasOwnerFacts, HasOwnRange};
 ghost use Rattle.zone_dnssec.specs.ZoneViews.{zone_with};
-ghost use Rattle.zone_rules.specs.Zones.{type_of};
+ghost use Rattle.zone_rules.specs.Zones.{field_octets, type_of};
 
 use crate::keys::{Key, fits, fits_valid};
 use crate::lengths::{KEY_ALGORITHM, SIGNING_ALGORITHM};
-use crate::owned::{Wanted, find_at, has_at_owner};
+use crate::owned::{Wanted, find_at, has_at, has_at_owner};
 use crate::sets::{has_authority, is_first_of_set, is_of_parent, is_signature_of, needs_signature};
 use crate::signatures::first;
 use crate::subject::Subject;
@@ -62,7 +62,7 @@ pub(crate) fn covers_by(
 pub(crate) fn is_key_with(algorithm: u8, record: &ZoneRecord<'_>) -> bool
     ensures { result ≡ is_key_with algorithm «record».now }
 {
-    record.data.rtype() == RecordType::DNSKEY && first(field(record, KEY_ALGORITHM)) == algorithm
+    record.data.rtype() == RecordType::DNSKEY && key_algorithm(record) == algorithm
 }
 
 /// Returns whether a record is an RRSIG by an algorithm that covers DNSKEY, or another type.
@@ -218,6 +218,13 @@ fn is_first_with<Z: ZoneRecords>(
     }
 }
 
+/// Returns the algorithm of a DNSKEY.
+pub fn key_algorithm(record: &ZoneRecord<'_>) -> u8
+    ensures { result ≡ slice_index (field_octets 2 «record».now) 0 }
+{
+    first(field(record, KEY_ALGORITHM))
+}
+
 /// Returns whether an algorithm signs the DNSKEYs alone.
 fn signs_keys_alone(signers: &[Signer], algorithm: u8) -> bool
     ensures { result ≡ signs_keys_alone signers.now algorithm }
@@ -244,7 +251,7 @@ fn signs_any_others(signers: &[Signer]) -> bool
 
 /// Returns whether a record is the first DNSKEY of an algorithm that signs no RRset but DNSKEY, in a
 /// zone in which others are signed.
-pub(crate) fn is_of_lone_algorithm<Z: ZoneRecords>(
+pub fn is_of_lone_algorithm<Z: ZoneRecords>(
     signers: &[Signer],
     origin: &Name<&[u8]>,
     records: &Z,
@@ -256,7 +263,7 @@ pub(crate) fn is_of_lone_algorithm<Z: ZoneRecords>(
     if record.data.rtype() != RecordType::DNSKEY {
         return false;
     }
-    let algorithm = first(field(record, KEY_ALGORITHM));
+    let algorithm = key_algorithm(record);
     is_same(&record.owner, origin)
         && signs_keys_alone(signers, algorithm)
         && signs_any_others(signers)
@@ -264,7 +271,7 @@ pub(crate) fn is_of_lone_algorithm<Z: ZoneRecords>(
 }
 
 /// Returns whether an algorithm signs others than DNSKEYs, and not the RRset of a subject's record.
-pub(crate) fn is_missed<Z: ZoneRecords>(
+fn is_missed<Z: ZoneRecords>(
     keys: &[Key],
     records: &Z,
     subject: &Subject<'_>,
@@ -333,4 +340,38 @@ pub(crate) fn lacks_algorithm<Z: ZoneRecords>(
         && needs_signature(subject.facts, record)
         && misses_some(keys, signers, records, subject)
         && has_valid_signature(keys, records, subject)
+}
+
+/// Returns whether an algorithm signs others than DNSKEYs, and not the RRset of a record.
+fn misses_set<Z: ZoneRecords>(
+    keys: &[Key],
+    records: &Z,
+    record: &ZoneRecord<'_>,
+    signer: &Signer,
+) -> bool
+    ensures { result
+        ≡ is_missed keys.now (type_of «record».now) «record».now.owner (Z.contents records.now)
+        signer.now }
+{
+    let rtype = record.data.rtype();
+    let wanted = Wanted::SignatureBy(keys, rtype, signer.algorithm);
+    signer.signs_others && !has_at(records, &record.owner, &wanted)
+}
+
+/// Returns the first algorithm that signs others than DNSKEYs, and not the RRset of a record.
+pub fn first_missed<Z: ZoneRecords>(
+    keys: &[Key],
+    signers: &[Signer],
+    records: &Z,
+    record: &ZoneRecord<'_>,
+) -> Option<u8>
+    ensures { result
+        ≡ missed_algorithm keys.now signers.now (Z.contents records.now) «record».now }
+{
+    for signer in signers {
+        if misses_set(keys, records, record, signer) {
+            return Some(signer.algorithm);
+        }
+    }
+    None
 }

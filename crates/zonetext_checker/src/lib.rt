@@ -1,6 +1,7 @@
 //! What `check` finds in entries and in the records of a zone. A part of the program `zonetext`.
 #![tactic(auto)]
 
+mod algorithm_texts;
 pub mod checker;
 mod entry_texts;
 mod file_sets;

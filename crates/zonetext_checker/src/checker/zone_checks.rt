@@ -1,5 +1,6 @@
 //! Findings about the records of a zone.
 use super::Checker;
+use crate::algorithm_texts::{algorithm_text, algorithms_for, is_of_unsigned_name};
 use crate::held_zone::{SortedZone, broken_rules, lacks_soa};
 use crate::hidden_zone::report_hidden;
 use crate::length_texts::length_text;
@@ -118,13 +119,21 @@ impl<'a> Checker<'a> {
             };
         }
         let found = check_signed(self.alloc, zone, times, &held.records)?;
-        for finding in &found {
+        let algorithms = algorithms_for(self.alloc, zone, held, found.as_slice())?;
+        for (index, finding) in found.iter().enumerate() {
             let code = finding.rule;
-            if (!is_whole && code.is_of_absence()) || code.is_of_time() {
+            if (!is_whole && code.is_of_absence())
+                || code.is_of_time()
+                || is_of_unsigned_name(held, found.as_slice(), index)
+            {
                 continue;
             }
             let record = Some(finding.record);
-            match length_text(self.alloc, zone, held, code, finding.record)? {
+            let text = match length_text(self.alloc, zone, held, code, finding.record)? {
+                Some(text) => Some(text),
+                None => algorithm_text(self.alloc, zone, held, &algorithms, finding)?,
+            };
+            match text {
                 Some(text) => self.findings.report_at(held, code, record, false, &text)?,
                 None => self.findings.report_broken(held, code, record)?,
             }

@@ -5,10 +5,8 @@ use Rattle.std.specs.Option.{option_map, option_map_or}
 use Rattle.zone_record.specs.Records.{data_of}
 use Rattle.zone_record.specs.TypeData.{TypeData}
 use Rattle.zone_record.specs.declared.record.Record.{Record}
+use Rattle.zone_dnssec.proofs.OwnedRecords.{some_is}
 use Rattle.zone_dnssec.proofs.algorithms.has_octets_at.Goals as goal
-
-some_is : {X : Type 0} {x y : X} → Some x ≡ Some y → x ≡ y
-some_is f = cc
 
 octets_in : {N O : Type 0} (octets : List ℕ) (o : Option (Record N O)) (x : TypeData) → Some x ≡ option_map data_of o
     → pointwise eqb x.octets octets ≡ option_map_or (λ r. pointwise eqb (data_of r).octets octets) o false

@@ -1,4 +1,4 @@
-use Rattle.std.proofs.Common.{ap, sym, ◌∙◌}
+use Rattle.std.proofs.Common.{sym, ◌∙◌}
 use Rattle.zone_rules.proofs.NameParts.{above_some}
 use Rattle.zone_dnssec.specs.UnmatchedLinks.{is_hash_above, is_hash_in_zone}
 use Rattle.zone_dnssec.specs.ZoneViews.{zone_with}

@@ -1,7 +1,6 @@
-use Rattle.std.proofs.Common.{◌≡◌, Some, false, sym, ap, ◌∙◌}
+use Rattle.std.proofs.Common.{false, sym, ap, ◌∙◌}
 use Rattle.std.specs.Option.{option_map_or}
 use Rattle.dns_wire.specs.Order.{same_name}
-use Rattle.zone_dnssec.specs.Nsec3Chain.{matching_owner}
 use Rattle.zone_dnssec.specs.UnmatchedLinks.{is_matching}
 use Rattle.zone_dnssec.proofs.Marks.{no_marks, owned_marks}
 use Rattle.zone_dnssec.proofs.unmatched.mark_matching.Goals as goal

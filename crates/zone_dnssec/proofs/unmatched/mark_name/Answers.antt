@@ -2,7 +2,7 @@ use Rattle.std.proofs.Common.{ap, sym, ◌∙◌}
 use Rattle.std.specs.Prelude.{◌&&◌}
 use Rattle.zone_dnssec.specs.UnmatchedLinks.{is_hash_in_zone, is_matching}
 use Rattle.zone_dnssec.specs.ZoneViews.{zone_with}
-use Rattle.zone_dnssec.proofs.Marks.{no_marks, same_marks}
+use Rattle.zone_dnssec.proofs.Marks.{same_marks}
 use Rattle.zone_dnssec.proofs.unmatched.mark_name.Goals as goal
 
 pub returns-then-is_name_within : goal.returns-then-is_name_within
