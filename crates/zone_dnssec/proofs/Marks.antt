@@ -13,7 +13,7 @@ use Rattle.dns_wire.specs.Order.{same_name}
 use Rattle.zone_record.specs.declared.record.Record.{Record}
 use Rattle.zone_rules.specs.Searches.{AreOwnedFrom}
 use Rattle.zone_rules.specs.Zones.{as_listed}
-use Rattle.zone_dnssec.specs.UnmatchedLinks.{shows_hashed, AreHashMarks, MarksOwners, MarksWithin}
+use Rattle.zone_dnssec.specs.UnmatchedLinks.{shows_hashed, HaveMarks, MarksOwners, MarksWithin}
 use Rattle.zone_dnssec.specs.ZoneViews.{ZoneView}
 use Rattle.zone_dnssec.proofs.OwnedRecords.{some_is}
 use Rattle.zone_dnssec.proofs.ChainSearch.{any_more, or_false, or_true}
@@ -141,14 +141,14 @@ module _ {N O : Type 0} (records : List (Record N O)) where
 -- ---- the marks of a chain
 
 module _ {N O M P : Type 0} (zone : ZoneView N O) (chain : Record M P) where
-  pub unset_marks : (marks : List Bool) (count : ℕ) → marks ≡ replicate count false → count ≡ length zone.records → AreHashMarks zone chain (take 0 zone.records) marks
+  pub unset_marks : (marks : List Bool) (count : ℕ) → marks ≡ replicate count false → count ≡ length zone.records → HaveMarks zone chain (take 0 zone.records) marks
   unset_marks marks count e size = record {
     size = ap length e ∙ length-replicate count false ∙ size;
     each = λ i d x lt. ap (λ l. get_or l i d) e ∙ get_or-replicate count i false d (omega (arith, lt, size));
   }
 
-  pub more_marks : (place : ℕ) (old new : List Bool) (r : Record N O) → place < length zone.records → get_or zone.records place r ≡ r → AreHashMarks zone chain (take place zone.records) old
-      → MarksOwners zone.records (λ owner. shows_hashed zone chain owner r) old new → AreHashMarks zone chain (take (place + 1) zone.records) new
+  pub more_marks : (place : ℕ) (old new : List Bool) (r : Record N O) → place < length zone.records → get_or zone.records place r ≡ r → HaveMarks zone chain (take place zone.records) old
+      → MarksOwners zone.records (λ owner. shows_hashed zone chain owner r) old new → HaveMarks zone chain (take (place + 1) zone.records) new
   more_marks place old new r lt is h m = record {
     size = m.size ∙ h.size;
     each = λ i d e less.
@@ -158,10 +158,10 @@ module _ {N O M P : Type 0} (zone : ZoneView N O) (chain : Record M P) where
   }
 
   pub more_marks_of : {R S : Type 0} (place : ℕ) (old new : List Bool) (found : Record R S) → place < length zone.records → Some found ≡ option_map as_listed (slice_get zone.records place)
-      → AreHashMarks zone chain (take place zone.records) old → MarksOwners zone.records (λ owner. shows_hashed zone chain owner found) old new → AreHashMarks zone chain (take (place + 1) zone.records) new
+      → HaveMarks zone chain (take place zone.records) old → MarksOwners zone.records (λ owner. shows_hashed zone chain owner found) old new → HaveMarks zone chain (take (place + 1) zone.records) new
   more_marks_of {R = R} {S = S} place old new found lt e h m = by (slice_get zone.records place) refl e
     where
-      by : (o : Option (Record N O)) → slice_get zone.records place ≡ o → Some found ≡ option_map as_listed o → AreHashMarks zone chain (take (place + 1) zone.records) new
+      by : (o : Option (Record N O)) → slice_get zone.records place ≡ o → Some found ≡ option_map as_listed o → HaveMarks zone chain (take (place + 1) zone.records) new
       by None q k = cc
       by (Some r) q k =
           more_marks place old new r lt (get_or_from_slice_get zone.records place r r q) h

@@ -54,7 +54,7 @@ pub record MarksOwners {N O : Type 0} (records : List (Record N O)) (test : List
   pub each : (i : ℕ) (d : Bool) (e : Record N O) → i < length records → get_or new i d ≡ (get_or old i d || test (get_or records i e).owner)
 
 -- the records at hashes of names that some records show have marks, and no others
-pub record AreHashMarks {N O M P : Type 0} (zone : ZoneView N O) (chain : Record M P) (shown : List (Record N O)) (marks : List Bool) : Type 0 where
+pub record HaveMarks {N O M P : Type 0} (zone : ZoneView N O) (chain : Record M P) (shown : List (Record N O)) (marks : List Bool) : Type 0 where
   pub size : length marks ≡ length zone.records
   pub each : (i : ℕ) (d : Bool) (e : Record N O) → i < length zone.records → get_or marks i d ≡ list_any (shows_hashed zone chain (get_or zone.records i e).owner) shown
 

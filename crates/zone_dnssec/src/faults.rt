@@ -4,7 +4,7 @@ ghost use Rattle.std.specs.Option.{option_map};
 ghost use Rattle.zone_dnssec.specs.ChainFaults.{either_faults, fails_beside, faults_with, late_faults, link_faults, AddsChain, AddsFaults, AreFaults, AreFaultsBefore, AreNoFaults, IsAtApex};
 ghost use Rattle.zone_dnssec.specs.ChainCounts.{AreFlagCounts};
 ghost use Rattle.zone_dnssec.specs.ChainLinks.{AreLinks};
-ghost use Rattle.zone_dnssec.specs.UnmatchedLinks.{AreHashMarks};
+ghost use Rattle.zone_dnssec.specs.UnmatchedLinks.{HaveMarks};
 ghost use Rattle.zone_dnssec.specs.declared.hashed.LinkFault.TheVariants.{DifferentTypes, Missing};
 ghost use Rattle.zone_dnssec.specs.ZoneViews.{zone_with};
 ghost use Rattle.zone_rules.specs.Zones.{as_listed, record_before};
@@ -135,12 +135,12 @@ fn with_links<Z: ZoneRecords, A: Allocator + Copy>(
     marks: &mut [bool],
 ) -> Result<Vec<ChainFaults, A>, AllocError>
     requires others { length others.now ≡ length (Z.contents records.now) }
-    requires marks { AreHashMarks (zone_with origin.now (Z.contents records.now)) chain.now
+    requires marks { HaveMarks (zone_with origin.now (Z.contents records.now)) chain.now
         (take 0 (Z.contents records.now)) marks.old }
     ensures faults { IfOk result (λ faults. AddsFaults (link_faults
         (zone_with origin.now (Z.contents records.now)) chain.now)
         others.now (length others.now) faults.items) }
-    ensures marks { OnOk result (AreHashMarks (zone_with origin.now (Z.contents records.now)) chain.now
+    ensures marks { OnOk result (HaveMarks (zone_with origin.now (Z.contents records.now)) chain.now
         (Z.contents records.now) marks.new) }
 {
     let links = links_of(alloc, records, chain)?;
@@ -165,7 +165,7 @@ fn late_faults_at<Z: ZoneRecords>(
     counts: FlagCounts,
     place: usize,
 ) -> ChainFaults
-    requires marks { AreHashMarks (zone_with origin.now (Z.contents records.now)) chain.now
+    requires marks { HaveMarks (zone_with origin.now (Z.contents records.now)) chain.now
         (Z.contents records.now) marks.now }
     requires counts { AreFlagCounts chain.now (Z.contents records.now) counts }
     requires place { place < length (Z.contents records.now) }
@@ -192,7 +192,7 @@ fn with_late<Z: ZoneRecords, A: Allocator>(
     marks: &[bool],
     others: &[ChainFaults],
 ) -> Result<Vec<ChainFaults, A>, AllocError>
-    requires marks { AreHashMarks (zone_with origin.now (Z.contents records.now)) chain.now
+    requires marks { HaveMarks (zone_with origin.now (Z.contents records.now)) chain.now
         (Z.contents records.now) marks.now }
     requires others { length others.now ≡ length (Z.contents records.now) }
     ensures { IfOk result (λ faults. AddsFaults (late_faults

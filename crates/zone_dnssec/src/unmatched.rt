@@ -1,6 +1,6 @@
 //! Marks the NSEC3 records that match names of a zone (RFC 5155 section 7.1).
 ghost use Rattle.std.specs.Prelude.{◌≡◌, ◌≤◌, ◌<◌, ◌+◌, length, take};
-ghost use Rattle.zone_dnssec.specs.UnmatchedLinks.{is_hash_above, is_hash_in_zone, is_matching, is_unmatched, is_unset, shows_hashed, shows_name, AreHashMarks, MarksOwners, MarksWithin};
+ghost use Rattle.zone_dnssec.specs.UnmatchedLinks.{is_hash_above, is_hash_in_zone, is_matching, is_unmatched, is_unset, shows_hashed, shows_name, HaveMarks, MarksOwners, MarksWithin};
 ghost use Rattle.zone_dnssec.specs.ZoneViews.{zone_with};
 ghost use Rattle.zone_rules.specs.Present.{has_dname_above};
 ghost use Rattle.zone_rules.specs.Subjects.{IsRecordAt};
@@ -150,9 +150,9 @@ pub(crate) fn mark_at<'c, Z: ZoneRecords, A: Allocator>(
     marks: &mut [bool],
 )
     requires place { place < length (Z.contents records.now) }
-    requires marks { AreHashMarks (zone_with origin.now (Z.contents records.now)) chain.now
+    requires marks { HaveMarks (zone_with origin.now (Z.contents records.now)) chain.now
         (take place (Z.contents records.now)) marks.old }
-    ensures { AreHashMarks (zone_with origin.now (Z.contents records.now)) chain.now
+    ensures { HaveMarks (zone_with origin.now (Z.contents records.now)) chain.now
         (take (place + 1) (Z.contents records.now)) marks.new }
 {
     let mut owner = OwnerBuffer::new();
@@ -178,7 +178,7 @@ pub(crate) fn is_unmatched<Z: ZoneRecords>(
     place: usize,
     record: &ZoneRecord<'_>,
 ) -> bool
-    requires marks { AreHashMarks (zone_with _origin.now (Z.contents _records.now)) chain.now
+    requires marks { HaveMarks (zone_with _origin.now (Z.contents _records.now)) chain.now
         (Z.contents _records.now) marks.now }
     requires place { place < length (Z.contents _records.now) }
     requires one { IsRecordAt (Z.contents _records.now) place «record».now }

@@ -1,7 +1,7 @@
 use Rattle.std.proofs.Common.{◌≡◌, length, sym, ap, subst, ◌∙◌}
 use Rattle.std.proofs.lemmas.Result.{IfOk-weaker}
 use Rattle.zone_dnssec.specs.ChainFaults.{late_faults, link_faults, AddsChain, AddsFaults}
-use Rattle.zone_dnssec.specs.UnmatchedLinks.{AreHashMarks}
+use Rattle.zone_dnssec.specs.UnmatchedLinks.{HaveMarks}
 use Rattle.zone_dnssec.specs.ZoneViews.{zone_with}
 use Rattle.zone_dnssec.proofs.ChainTests.{parts_added}
 use Rattle.zone_dnssec.proofs.Marks.{taken_whole, unset_marks}
@@ -18,7 +18,7 @@ with_late-requires-clause-marks g c =
     let chain = c.args.chain.now in
     let first = unset_marks zone chain c.as_mut_slice.result.now (length c.args.others.now) (c.as_mut_slice.ensures.value ∙ c.in_ok-marks.ensures) c.requires in
     let size : c.in_ok-marks.marks.len ≡ length c.with_links.new.marks = sym c.as_mut_slice.ensures.len ∙ first.size ∙ sym c.in_ok-faults.ensures.marks.size in
-    subst (AreHashMarks zone chain records) (sym (c.as_slice.ensures.value ∙ taken_whole c.in_ok-marks.marks.len c.with_links.new.marks _ size)) c.in_ok-faults.ensures.marks
+    subst (HaveMarks zone chain records) (sym (c.as_slice.ensures.value ∙ taken_whole c.in_ok-marks.marks.len c.with_links.new.marks _ size)) c.in_ok-faults.ensures.marks
 
 pub with_late-requires-clause-others : goal.with_late-requires-clause-others
 with_late-requires-clause-others g c = ap length c.as_slice-2.ensures.value ∙ c.in_ok-faults.ensures.faults.size ∙ c.requires

@@ -1,7 +1,7 @@
 use Rattle.std.proofs.Common.{◌≡◌, ◌++◌, ◌∷◌, [], length, take, ap, subst, ◌∙◌, arith}
 use Rattle.std.proofs.Math.Seq.{take-length}
 use Rattle.zone_dnssec.specs.ChainFaults.{link_faults}
-use Rattle.zone_dnssec.specs.UnmatchedLinks.{AreHashMarks}
+use Rattle.zone_dnssec.specs.UnmatchedLinks.{HaveMarks}
 use Rattle.zone_dnssec.specs.ZoneViews.{zone_with}
 use Rattle.zone_dnssec.proofs.ChainTests.{faults_pushed}
 use Rattle.zone_dnssec.proofs.faults.with_links.Goals as goal
@@ -27,4 +27,4 @@ pub returns-clause-marks : goal.returns-clause-marks
 returns-clause-marks g c =
     let records = g.Z.ZoneRecords.contents c.args.records.now in
     let ends : c.loop-place.place ≡ length records = omega (arith, c.loop-place.auto.place-end, c.loop-place-test.false, c.requires.others) in
-    subst (λ l. AreHashMarks (zone_with c.args.origin.now records) c.args.chain.now l c.loop-place.marks) (ap (λ n. take n records) ends ∙ take-length records) c.loop-place.invariant.1
+    subst (λ l. HaveMarks (zone_with c.args.origin.now records) c.args.chain.now l c.loop-place.marks) (ap (λ n. take n records) ends ∙ take-length records) c.loop-place.invariant.1
