@@ -15,6 +15,8 @@ VERSION = "0.3.0"
 
 # The statuses that the package handles.
 OK, END, NO_ROOM, INCLUDE, RELATIVE_NAME, GENERATE, BAD_GENERATE = 0, 1, 2, 26, 35, 36, 37
+# Those of syntax errors: from BAD_ESCAPE to LONE_RETURN.
+SYNTAX = range(3, 13)
 
 
 class Outcome(c.Structure):

@@ -116,8 +116,8 @@ def records(source: Source, *, origin: Union[str, Name, None] = None, ttl: Optio
     include one another, and at most 10,000 are included in all. After the file, origin and owner are as before
     it, and its TTLs apply. A `$GENERATE` directive with more than `max_generate` entries is an Error.
     """
-    zone = _start(origin, ttl, rdclass)
-    reader = _Reader(on_error, max_generate)
+    zone = start_of(origin, ttl, rdclass)
+    reader = Reader(on_error, max_generate)
     if include is not None:
         called = include
         reader.open = lambda name, files: (name, content_of(called(name, files[-1])))
@@ -142,14 +142,14 @@ def read_zone(path: Path, *, origin: Union[str, Name, None] = None, ttl: Optiona
     """
     if isinstance(folders, (str, bytes)):
         raise TypeError("folders: expected several paths, not one")
-    first = _path(path)
-    opener = _Opener(first, [_path(folder) for folder in folders])
-    reader = _Reader(on_error, max_generate)
+    first = path_of(path)
+    opener = _Opener(first, [path_of(folder) for folder in folders])
+    reader = Reader(on_error, max_generate)
     reader.open = opener.open
-    return reader.read_later(lambda: _content(first), _start(origin, ttl, rdclass), first)
+    return reader.read_later(lambda: _content(first), start_of(origin, ttl, rdclass), first)
 
 
-def _path(path: Path) -> str:
+def path_of(path: Path) -> str:
     found = os.fspath(path)
     if not isinstance(found, str):
         raise TypeError(f"path: expected str, not {type(found).__name__}")
@@ -166,7 +166,7 @@ def content_of(source: Source) -> bytes:
     return text_of(source if isinstance(source, (str, bytes, bytearray, memoryview)) else source.read())
 
 
-def _start(origin: Union[str, Name, None], ttl: Optional[int], rdclass: Union[str, int]) -> library.Zone:
+def start_of(origin: Union[str, Name, None], ttl: Optional[int], rdclass: Union[str, int]) -> library.Zone:
     """Returns the state at the beginning of a zone file."""
     zone, outcome = library.Zone(), library.Outcome()
     library.zone_init(zone)
@@ -255,7 +255,7 @@ class _Entries:
         return self.found.arguments(self.text.octets, self.text.outcome.length, zone)
 
 
-class _Reader:
+class Reader:
     """What the files of one iterator share."""
 
     def __init__(self, on_error: Optional[OnError], max_generate: int) -> None:
@@ -284,15 +284,16 @@ class _Reader:
     def read_later(self, content: Callable[[], bytes], zone: library.Zone, file: Optional[str]) -> Iterator[Record]:
         yield from self.read(content(), zone, (file,))
 
-    def read(self, text: bytes, zone: library.Zone, files: Tuple[Optional[str], ...]) -> Iterator[Record]:
-        """Yields the records of a text, which is the last of the open files."""
+    def read(self, text: bytes, zone: library.Zone, files: Tuple[Optional[str], ...], offset: int = 0,
+             line: int = 1) -> Iterator[Record]:
+        """Yields the records of a text, which is the last of the open files, or begins at that offset and line of it."""
         file, buffers = files[-1], _Buffers()
         arguments = buffers.arguments(text, len(text), zone)
         # (names of this function are found faster)
         call, fields, memory, outcome = library.record_next, buffers.FORM.unpack_from, buffers.memory, buffers.outcome
         octets, owner, names, new, count = buffers.octets, buffers.owner, self.names, _NEW, text.count
-        # Offset and line of the last entry or error: both never decrease.
-        at, line = 0, 1
+        # Offset of the last entry or error, whose line is `line`: both never decrease.
+        at = 0
         while True:
             status = call(*arguments)
             if not status:
@@ -309,7 +310,7 @@ class _Reader:
             place = buffers.record.place if is_directive else outcome.place
             line += count(b"\n", at, place)
             at = place
-            where = place, line, _column(text, place), file
+            where = offset + place, line, _column(text, place), file
             if status == library.INCLUDE:
                 yield from self.include(octets[:outcome.length], buffers.record.name, zone, where, files)
             elif status == library.GENERATE:

@@ -97,3 +97,15 @@ def run(words, **given):
     ran = subprocess.run(words, stdout=subprocess.PIPE, stderr=subprocess.STDOUT, check=False, **given)
     assert ran.returncode == 0, f"{words}: status {ran.returncode}: {ran.stdout.decode(errors='replace')[-2000:]}"
     return ran.stdout
+
+
+def has_offsets():
+    """Returns whether there is a program `zonetext` that finds parts of zone files."""
+    program = os.environ.get("zonetext")
+    return bool(program) and b"--offsets" in subprocess.run([program, "cut", "--help"], stdout=subprocess.PIPE, check=False).stdout
+
+
+def need_offsets(test):
+    """Skips a test without such a program."""
+    if not has_offsets():
+        test.skipTest("no zonetext, or one without cut --offsets: parts of zone files are not found")
