@@ -1,9 +1,8 @@
--- Worked examples: parts of a file, the TTL of a record, what an entry keeps from being read in parts, and the lines that set a state.
-use Rattle.std.specs.Prelude.{◌≡◌, ℕ, true, false, [], ◌∷◌, codes, decimal, None, Some, Ok, Err, refl}
-use Rattle.rdata.specs.GatewayKeys.{plain_word}
+-- Worked examples: parts of a file, whether a TTL is known, and what keeps a file from being read in parts.
+use Rattle.std.specs.Prelude.{◌≡◌, true, false, [], ◌∷◌, Some, Ok, Err, refl}
+use Rattle.std.proofs.Common.{arith}
 use Rattle.zone_reader.specs.Past.{nothing_declared}
 use Rattle.zone_reader.specs.declared.entry.ParsedEntry.TheVariants.{Empty, Generate, Include}
-use Rattle.zone_reader.specs.declared.state.State.{State}
 use Rattle.zone_parts.specs.PartSpans.{AreWholeFile}
 use Rattle.zone_parts.specs.Passing.{knows_ttl, outcome}
 use Rattle.zone_parts.specs.declared.pass_error.PassError.TheVariants.{Generate as OfGenerate, Include as OfInclude}
@@ -14,7 +13,7 @@ whole_row = (refl, refl, refl)
 
 -- the same file, where an octet is in no part
 gap_row : AreWholeFile (record { at = 0; len = 17 } ∷ record { at = 18; len = 13 } ∷ []) 31 → ⊥
-gap_row h = cc
+gap_row h = omega (arith, h.1.0)
 
 ttl_row : (knows_ttl (nothing_declared 1) ≡ false) × (knows_ttl (record (nothing_declared 1) { last_ttl = Some 0 }) ≡ true) × (knows_ttl (record (nothing_declared 1) { default_ttl = Some 5 }) ≡ true)
 ttl_row = (refl, refl, refl)

@@ -282,10 +282,9 @@ impl<'f> OffsetFinder<'f> {
             if self.finder.may_begin(self.held.at()) {
                 self.begin_part()?;
             }
+            let is_last = self.held.is_last;
             let rest = self.held.rest();
-            let passed = self
-                .finder
-                .pass_first(rest, self.held.is_last, &mut self.data);
+            let passed = self.finder.pass_first(rest, is_last, &mut self.data);
             match passed {
                 Some(Ok(count)) if count <= self.options.max_entry => {
                     self.held.next = self.held.next.saturating_add(count);
