@@ -132,7 +132,7 @@ pub mod record {
         map.end()
     }
 
-    /// Deserializes a record, in whose RDATA names are absolute. Its offset is 0.
+    /// Deserializes a record, in whose RDATA names are absolute. Its offsets are 0.
     pub fn deserialize<'de, D: Deserializer<'de>>(from: D) -> Result<Record, D::Error> {
         let visitor = FieldsVisitor("a record");
         let mut fields = from.deserialize_struct("Record", &FIELDS, visitor)?;
@@ -143,6 +143,8 @@ pub mod record {
         }
         Ok(Record {
             place: 0,
+            data_place: 0,
+            end: 0,
             owner,
             ttl: required(fields.ttl, "ttl")?,
             class: required(fields.class, "class")?,

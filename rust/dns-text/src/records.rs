@@ -47,10 +47,25 @@ use std::iter::FusedIterator;
 /// assert_eq!(places, [43, 13, 0]);
 /// # Ok::<(), dns_text::RecordFault>(())
 /// ```
+///
+/// An editor can replace a record, or its RDATA alone, by their offsets:
+///
+/// ```
+/// use dns_text::{records, ZoneItem};
+///
+/// let mut zone = "w.example. 60 A (192.0.2.1 ) ; web\n".to_string();
+/// let Some(Ok(ZoneItem::Record(web))) = records(zone.as_bytes()).next() else { panic!() };
+/// zone.replace_range(web.data_place..web.end, "192.0.2.2");
+/// assert_eq!(zone, "w.example. 60 A (192.0.2.2 ) ; web\n");
+/// ```
 #[derive(Clone, Debug)]
 pub struct Record {
     /// Offset of its first token.
     pub place: usize,
+    /// Offset of the first token of its RDATA, or `end` if there is none.
+    pub data_place: usize,
+    /// Offset after its last token.
+    pub end: usize,
     /// The owner, an absolute name.
     pub owner: Name,
     /// Its own TTL; or else that of `$TTL`; or else the last one of a record; or else, for an SOA, its
@@ -159,12 +174,17 @@ pub enum ZoneItem {
 }
 
 impl ZoneItem {
-    /// Changes its offset to that in a text that begins at the offset `before`.
+    /// Changes its offsets to those in a text that begins at the offset `before`.
     pub(crate) fn move_behind(&mut self, before: usize) {
         match self {
-            ZoneItem::Record(Record { place, .. })
-            | ZoneItem::Include { place, .. }
-            | ZoneItem::Generate(Generate { place, .. }) => *place += before,
+            ZoneItem::Record(record) => {
+                record.place += before;
+                record.data_place += before;
+                record.end += before;
+            }
+            ZoneItem::Include { place, .. } | ZoneItem::Generate(Generate { place, .. }) => {
+                *place += before
+            }
         }
     }
 }
@@ -613,6 +633,8 @@ impl ZoneState {
             DNSTEXT_END => return None,
             DNSTEXT_OK => ZoneItem::Record(Record {
                 place: record.place,
+                data_place: record.data,
+                end: record.end,
                 owner: name_of(&record.name).unwrap_or_default(),
                 ttl: Ttl::from_seconds(record.ttl).unwrap_or(Ttl::MAX),
                 class: Class(record.class_code),

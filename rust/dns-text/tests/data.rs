@@ -305,6 +305,35 @@ fn long_data_are_refused() {
     );
 }
 
+/// RFC 1035 section 3.3.14: strings of 255 octets, and one of the rest, which may be the only one.
+#[test]
+fn texts_of_any_octets_are_strings() {
+    for (count, lengths) in [
+        (0, &[0][..]),
+        (1, &[1]),
+        (255, &[255]),
+        (256, &[255, 1]),
+        (510, &[255, 255]),
+        (511, &[255, 255, 1]),
+    ] {
+        let octets: Vec<u8> = (0..=254).cycle().take(count).collect();
+        let data = RecordData::txt(&octets).unwrap();
+        let RecordData::Txt(strings) = &data else {
+            panic!("{data:?}")
+        };
+        let found: Vec<usize> = strings.iter().map(|it| it.as_octets().len()).collect();
+        assert_eq!(found, lengths);
+        let strings: Vec<&[u8]> = strings.iter().map(CharStr::as_octets).collect();
+        assert_eq!(strings.concat(), octets);
+        let read = RecordData::from_text(RecordType::TXT, data.to_text().unwrap().as_bytes(), None);
+        assert_eq!(read, Ok(data));
+    }
+    let most = RecordData::txt(&vec![b';'; 65279]).unwrap();
+    assert_eq!(most.to_octets().unwrap().len(), 65535);
+    let error = RecordData::txt(&vec![b';'; 65280]).unwrap_err();
+    assert_eq!(error.to_string(), "TXT: too many octets");
+}
+
 /// A relative name cannot be an origin.
 #[test]
 fn relative_origins_are_refused() {

@@ -66,6 +66,19 @@ fn entries_are_read_in_the_place_of_their_directive() {
 }
 
 #[test]
+fn offsets_of_generated_records_are_those_of_their_directive() {
+    let origin = "example.".parse().unwrap();
+    let found = records(ZONE).with_origin(&origin).unwrap();
+    let found = found.follow_includes(|_| Err::<&[u8], _>("no file"));
+    let places = found.map(|record| {
+        let record = record.unwrap();
+        (record.place, record.data_place, record.end)
+    });
+    let wanted = [(0, 7, 16), (17, 17, 17), (17, 17, 17), (57, 61, 62)];
+    assert_eq!(places.collect::<Vec<_>>(), wanted);
+}
+
+#[test]
 fn streams_have_the_directives_of_texts() {
     let at_once: Vec<_> = records(ZONE).filter_map(Result::ok).map(placed).collect();
     for size in 1..ZONE.len() {

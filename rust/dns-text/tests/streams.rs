@@ -5,7 +5,7 @@ mod blocks;
 #[path = "common/table.rs"]
 mod table;
 
-use blocks::{in_blocks, placed, Blocks};
+use blocks::{in_blocks, placed, Blocks, Placed};
 use dns_text::{
     entries, pieces, position, read_entries, read_records, records, Entry, Fault, FaultKind,
     OwnedEntry, PieceKind, Position, RecordFault, StreamError, ZoneItem,
@@ -151,7 +151,7 @@ fn entries_of_readers_that_fail() {
     });
 }
 
-fn items<E>(found: impl Iterator<Item = Result<ZoneItem, E>>) -> Vec<Option<(usize, ZoneItem)>> {
+fn items<E>(found: impl Iterator<Item = Result<ZoneItem, E>>) -> Vec<Option<Placed>> {
     found.map(|item| item.ok().map(placed)).collect()
 }
 

@@ -1,13 +1,43 @@
 //! RDATA from and to presentation format.
 use super::compose::compose;
 use super::{BadData, BadDataReason, RecordData};
-use crate::call::with_room;
+use crate::call::{give, with_room};
 use crate::codec::BASE16;
 use crate::{Name, RecordFault, RecordFaultKind, RecordType};
-use dns_text_sys::{dnstext_data_canonical, dnstext_data_print, dnstext_data_read, DNSTEXT_OK};
+use dns_text_sys::{
+    dnstext_data_canonical, dnstext_data_print, dnstext_data_read, dnstext_text_data, DNSTEXT_OK,
+};
 use std::fmt;
 
 impl RecordData {
+    /// Returns RDATA of TXT whose strings are these octets: each has 255 of them, and the last one the rest.
+    /// No octets are one empty string.
+    ///
+    /// A value that a user types is not in presentation format: parsed, this key would end before the semicolon,
+    /// which begins a comment. Fails with `TooLong` if there are more than 65,279 octets.
+    ///
+    /// ```
+    /// use dns_text::{BadDataReason, RecordData};
+    ///
+    /// let key = RecordData::txt(b"v=DKIM1; k=rsa")?;
+    /// assert_eq!(key.to_text()?, r#""v=DKIM1; k=rsa""#);
+    /// let RecordData::Txt(strings) = RecordData::txt(&[b'x'; 256])? else { panic!() };
+    /// assert_eq!(strings.iter().map(|string| string.as_octets().len()).collect::<Vec<_>>(), [255, 1]);
+    /// assert_eq!(RecordData::txt(&[b'x'; 65280]).unwrap_err().reason, BadDataReason::TooLong);
+    /// # Ok::<(), dns_text::BadData>(())
+    /// ```
+    pub fn txt(octets: &[u8]) -> Result<RecordData, BadData> {
+        let record_type = RecordType::TXT;
+        match give(dnstext_text_data, octets, octets.len() + 1) {
+            Ok(data) => Ok(RecordData::of_read(record_type, &data)),
+            Err(_) => Err(BadData {
+                record_type,
+                field: None,
+                reason: BadDataReason::TooLong,
+            }),
+        }
+    }
+
     /// Parses RDATA of a type: the tokens that follow the type in a record, or `\#`, the number of
     /// octets, and these in hexadecimal (RFC 3597 section 5). The origin is appended to relative names;
     /// without one they are rejected, and so is a relative name as the origin.

@@ -27,7 +27,7 @@ const MOST_ENTRIES: u64 = 1 << 20;
 /// line of a syntax error; and after the `$INCLUDE` of a file that isn't read. At most 10 files include one
 /// another, and at most 10,000 are included in all.
 ///
-/// The records of a `$GENERATE` directive are in its place, one by one. Their offset is that of the directive,
+/// The records of a `$GENERATE` directive are in its place, one by one. Their offsets are that of the directive,
 /// and so is the position of their errors. They have the origin, the class and the TTLs at the directive. The
 /// TTLs that they set apply after it, and their owners don't. A rejected entry ends its directive. A directive
 /// with more than 1,048,576 entries has none: [`with_max_generate`](FollowedRecords::with_max_generate) sets
@@ -310,7 +310,12 @@ impl GeneratedRecords {
         self.index += 1;
         let place = self.directive.place;
         match reader.read_entry(&entry.text)? {
-            Ok(ZoneItem::Record(record)) => Some(Ok(Record { place, ..record })),
+            Ok(ZoneItem::Record(record)) => Some(Ok(Record {
+                place,
+                data_place: place,
+                end: place,
+                ..record
+            })),
             // (the library writes no directives as entries)
             Ok(_) => None,
             Err(fault) => Some(Err(FollowErrorKind::GeneratedEntry {

@@ -78,14 +78,18 @@ pub fn in_blocks(text: &[u8], mut judge: impl FnMut(Blocks<'_>)) {
     }
 }
 
-/// Returns an item and its offset, without which records are compared.
+/// An item and its offsets, without which records are compared.
 #[allow(dead_code)]
-pub fn placed(item: ZoneItem) -> (usize, ZoneItem) {
-    let place = match &item {
-        ZoneItem::Record(record) => record.place,
-        ZoneItem::Include { place, .. } => *place,
-        ZoneItem::Generate(directive) => directive.place,
+pub type Placed = (Vec<usize>, ZoneItem);
+
+/// Returns an item and its offsets.
+#[allow(dead_code)]
+pub fn placed(item: ZoneItem) -> Placed {
+    let places = match &item {
+        ZoneItem::Record(record) => vec![record.place, record.data_place, record.end],
+        ZoneItem::Include { place, .. } => vec![*place],
+        ZoneItem::Generate(directive) => vec![directive.place],
         item => panic!("{item:?}"),
     };
-    (place, item)
+    (places, item)
 }

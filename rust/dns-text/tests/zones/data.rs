@@ -93,6 +93,8 @@ pub fn line(record: &[&str], wanted: &str) -> bool {
     let data = RecordData::from_text(record_type, &octets_of(text), origin.as_ref());
     let record = data.map(|data| Record {
         place: 0,
+        data_place: 0,
+        end: 0,
         owner: name_of(owner),
         ttl,
         class: Class(class.parse().unwrap()),

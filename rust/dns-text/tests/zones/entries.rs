@@ -1,5 +1,5 @@
 //! Zone files: records, files to include and errors, in memory and in chunks.
-use crate::blocks::{in_blocks, placed, Blocks};
+use crate::blocks::{in_blocks, placed, Blocks, Placed};
 use crate::data::{is_read_back, name_of};
 use crate::table::octets_of;
 use dns_text::{
@@ -9,7 +9,7 @@ use dns_text::{
 use std::io::BufRead;
 
 /// The items with their offsets, and the errors with their positions.
-type Found = Vec<Result<(usize, ZoneItem), (RecordFault, Position)>>;
+type Found = Vec<Result<Placed, (RecordFault, Position)>>;
 
 fn at_once(text: &[u8], origin: Option<&str>) -> Found {
     let mut found = records(text);
@@ -56,7 +56,7 @@ fn refusal_of(fault: &RecordFault) -> String {
 }
 
 /// Returns whether an item is that of the row.
-fn agrees(wanted: &str, found: &Result<(usize, ZoneItem), (RecordFault, Position)>) -> bool {
+fn agrees(wanted: &str, found: &Result<Placed, (RecordFault, Position)>) -> bool {
     match found.as_ref().map(|(_, item)| item) {
         Err((fault, _)) => refusal_of(fault) == wanted,
         Ok(ZoneItem::Include { file, origin, .. }) => {
