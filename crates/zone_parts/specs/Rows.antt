@@ -9,7 +9,7 @@ use Rattle.zone_parts.specs.declared.pass_error.PassError.TheVariants.{Generate 
 
 -- 31 octets in two parts
 whole_row : AreWholeFile (record { at = 0; len = 17 } ∷ record { at = 17; len = 14 } ∷ []) 31
-whole_row = (refl, refl, refl)
+whole_row = (refl, (refl, refl))
 
 -- the same file, where an octet is in no part
 gap_row : AreWholeFile (record { at = 0; len = 17 } ∷ record { at = 18; len = 13 } ∷ []) 31 → ⊥
