@@ -5,7 +5,7 @@ import itertools
 import os
 import re
 import subprocess
-from typing import Iterator, List, NamedTuple, Tuple, Union
+from typing import Iterator, List, NamedTuple, Optional, Tuple, Union
 
 from . import _library as library
 from ._records import MAX_GENERATE, OnError, Path, Reader, Record, path_of, start_of
@@ -129,8 +129,8 @@ def _status(message: str) -> str:
     return "DNSTEXT_TOO_LONG" if message.startswith("entry longer") else "DNSTEXT_BAD_HEAD"
 
 
-def read_part(path: Path, part: Part, *, rdclass: Union[str, int] = "IN", on_error: Union[OnError, None] = None,
-              ) -> Iterator[Record]:
+def read_part(path: Path, part: Part, *, rdclass: Union[str, int] = "IN",
+              on_error: Optional[OnError] = None) -> Iterator[Record]:
     """Returns an iterator over the records of a part of a zone file, in the class of the whole file.
 
     Lines, columns and offsets are those of the file. At the first `next` it reads the octets of the part, and fails
