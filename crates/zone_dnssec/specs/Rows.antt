@@ -244,7 +244,7 @@ glue_need_not_be_listed_row = refl
 
 -- ---- faults of one or both of two chains
 
-either_row : either_faults (faults_with true false false) (faults_with false false true) ≡ faults_with true false true
+either_row : either_faults (faults_with true false false false true) (faults_with false false true false false) ≡ faults_with true false true false true
 either_row = refl
 
 -- ---- lengths of signatures and keys
