@@ -207,7 +207,8 @@ def lines_of_parts():
             same(f'{command} of {line!r}', (status, out, 'wants a line that cut --offsets printed' in err), (2, '', True))
     for command in 'records', 'check':
         status, out, err = run(command, '--part', '17\t31\t2\t', 'zone')
-        same('a short file', (status, out, err), (3, '', 'zonetext: zone: shorter than the part\n'))
+        said = "zone:1:1: error: cannot read 'zone': shorter than the part [file]\n1 error, 0 warnings\n" if command == 'check' else 'zonetext: zone: shorter than the part\n'
+        same('a short file', (status, out, err), (3, '', said))
         same('no file', run(command, '--part', first, 'absent')[:2], (3, ''))
         same('no argument', run(command, '--part', first)[0], 2)
         same('two files', run(command, '--part', first, 'zone', 'zone')[0], 2)

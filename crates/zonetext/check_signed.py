@@ -151,7 +151,8 @@ def check(program, lines, path, is_hashed, usual):
     forms += [("not soon", lines, usual, [*now, "--within", "16d"], 0)]
     forms += [("late", lines, {"expired"}, ["--now", "20260201000001"], 1)]
     forms += [("early", lines, {"not-yet-valid"}, ["--now", "20251231235959"], 1)]
-    forms += [(what, form, wanted, now, 1) for what, form, wanted in damaged(lines, is_hashed)]
+    # a lone Opt-Out flag is a warning
+    forms += [(what, form, wanted, now, 0 if wanted == {"opt-out"} else 1) for what, form, wanted in damaged(lines, is_hashed)]
     for what, form, wanted, options, status in forms:
         said, codes = found(program, form, path, options)
         if said != status or not wanted <= codes or (what in ("whole", "not soon") and codes != usual):
