@@ -439,6 +439,14 @@ def owners_by_line(text, records):
     return {line: (fields[0], fields[3]) for line, fields in zip(starts, reported)} if len(starts) == len(reported) else None
 
 
+def first_aliases(owners):
+    """Returns the owner of the first CNAME of each name that has several and no other record: the program reports the others."""
+    names = {}
+    for _, (owner, rtype) in sorted(owners.items()):
+        names.setdefault(owner.lower(), []).append((owner, rtype))
+    return [it[0][0] for it in names.values() if len(it) > 1 and all(rtype == b"CNAME" for _, rtype in it)]
+
+
 def rules_row(codes, *options):
     """Findings about a zone: their codes, with owner and type of the record at the reported line."""
 
@@ -473,7 +481,8 @@ def rules_row(codes, *options):
                     found.append(b" ".join((code, *owners[finding["line"]])))
             # (the program shows one finding a word)
             beaten = [b" ".join((code, *owners[it["line"]])) for by, code in BEATEN.items() for it in findings(check, {by})]
-            return sorted(found) == [it for it in wanted if it not in beaten]
+            firsts = [b"cname " + it + b" CNAME" for it in first_aliases(owners)]
+            return sorted(found) == [it for it in wanted if it not in beaten and it not in firsts]
 
         return Plan(files, commands, f"findings {short(b';'.join(wanted))}", agrees)
 
@@ -506,6 +515,14 @@ def hidden_row(row):
     return Plan({"f": text}, commands, f"hidden {short(b';'.join(b' '.join(it) for it in wanted))}", agrees)
 
 
+def label_count(name):
+    """Returns the number of labels of a name in wire format, without the root."""
+    count, at = 0, 0
+    while name[at]:
+        count, at = count + 1, at + 1 + name[at]
+    return count
+
+
 def hash_row(row):
     """An NSEC3 with the expected hash matches the name, and one with another hash does not."""
     name, salt, iterations, origin = row.inputs
@@ -521,7 +538,11 @@ def hash_row(row):
         begin = b"$TTL 60\n$ORIGIN " + zone + b"\n@ SOA ns.example.net. h 1 4 2 9 5\n@ NS ns.example.net.\n"
         signed = b"@ DNSKEY 256 3 8 AQID\n@ NSEC3PARAM 1 0 " + reported + b"\n"
         chain = hashed + b" NSEC3 1 0 " + reported + b" 2T7B4G4VSA5SMI47K61MV5BV1A22BOJR A\n"
-        return begin + signed + chain + (b"" if is_apex else owner + b" A 192.0.2.1\n")
+        # (a name without signatures is reported as `unsigned` alone)
+        end = b" 8 %d 60 20350101000000 20250101000000 1 " % label_count(name) + zone + b" AQID\n"
+        types = [b"SOA", b"NS", b"DNSKEY", b"NSEC3PARAM"] if is_apex else [b"A"]
+        signatures = b"".join(owner + b" RRSIG " + rtype + end for rtype in types)
+        return begin + signed + chain + (b"" if is_apex else owner + b" A 192.0.2.1\n") + signatures
 
     # Findings about a name are reported at its first record in canonical order.
     line = 4 if is_apex else 8

@@ -39,7 +39,7 @@ pub const CUT: CommandTable = CommandTable {
         ArgRow {
             name: "offsets",
             value_name: &["N"],
-            help: "print where at most N parts begin, as lines for\n--part, and copy nothing",
+            help: "print where at most N parts begin, as lines that\noption --part takes, and copy nothing",
             conflicts: &["output", "soa"],
             ..VALUED
         },
