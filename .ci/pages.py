@@ -77,6 +77,8 @@ def read_uses():
 
 
 USES = read_uses()
+# The crates of the repository, and those of the kit that they use.
+CRATES = {*USES, *(it for below in USES.values() for it in below)}
 
 
 def add_below(crate, found):
@@ -251,7 +253,7 @@ class Page:
 
     def check_name(self, number, span):
         for name in re.findall(r"[A-Za-z_]\w+", span):
-            if name in ELSEWHERE or name in USES or re.fullmatch(r"[A-Z]+", name):
+            if name in ELSEWHERE or name in CRATES or re.fullmatch(r"[A-Z]+", name):
                 continue
             is_plain = name.islower() and "_" not in name
             if not any(name in declared(it)[0] or (is_plain and name in declared(it)[1]) for it in self.folders):
