@@ -56,18 +56,16 @@ pub fn ttl_in_line(line: &[u8], number: usize) -> Option<SpelledTtl<'_>> {
 
 /// Returns the octets of a line from a column on.
 fn from_column(line: &[u8], column: usize) -> &[u8] {
-    let mut rest = line;
     let mut count: usize = 0;
-    while let [first, others @ ..] = rest {
-        if begins_character(*first) {
+    for at in 0..line.len() {
+        if begins_character(line[at]) {
             count = count.saturating_add(1);
         }
         if count >= column {
-            return rest;
+            return &line[at..];
         }
-        rest = others;
     }
-    rest
+    &[]
 }
 
 /// Returns whether a word looks like a name outside of the zone without its final dot: it has a dot inside,
