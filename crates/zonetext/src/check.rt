@@ -15,7 +15,7 @@ use std::{env, io};
 use zone_dnssec::Times;
 use zone_reader::{NameBuffer, State};
 use zonetext_checker::checker::{Checker, Limits};
-use zonetext_files::file_part::StatedPart;
+use zonetext_files::file_part::{FilePart, StatedPart};
 use zonetext_files::files::check_text;
 use zonetext_files::generated::{GenerateMode, GenerateOptions};
 use zonetext_files::journals::{has_journal, report_journal};
@@ -80,8 +80,6 @@ pub struct Options<'o> {
     pub is_many: bool,
     /// Whether warnings are counted, but not shown.
     pub omits_warnings: bool,
-    /// The part of a file that is checked alone, if not all of it is.
-    pub part: Option<&'o StatedPart>,
     /// Where a configuration or a list names the file, if one does.
     pub file_place: Option<&'o FilePlace>,
 }
@@ -192,7 +190,6 @@ fn options_of<'o>(
     inner: &'o ArgMatches,
     is_many: bool,
     codes: &'o mut Codes,
-    part: Option<&'o StatedPart>,
 ) -> Result<Options<'o>, Usage<'o>> {
     let most = number_of(inner.get_str("max"), "--max")?;
     let zone = Zone::asked(inner)?;
@@ -244,7 +241,6 @@ fn options_of<'o>(
         is_quiet: inner.get_flag("quiet"),
         is_many: false,
         omits_warnings: inner.get_flag("errors-only"),
-        part,
         file_place: None,
     })
 }
@@ -313,13 +309,14 @@ fn lacks_zone(options: &Options, checker: &Checker) -> bool {
 }
 
 /// Checks a file, and reports the findings. Returns whether it can be read.
-fn check_entries(
-    rt: &HostRuntime,
-    file: &str,
-    options: &Options,
-    settings: &Settings,
+fn check_entries<'c>(
+    rt: &'c HostRuntime,
+    file: &'c str,
+    options: &'c Options<'c>,
+    settings: &'c Settings,
     checker: &mut Checker,
     state: State,
+    part: Option<FilePart>,
 ) -> Result<bool, RunError> {
     let folders = paths_of(rt.alloc(), settings.folders.as_slice())?;
     let begin = Begin {
@@ -332,7 +329,7 @@ fn check_entries(
         root: options.root,
         stdin_name: options.stdin_name,
         is_quiet: options.is_quiet,
-        part: options.part.map(|stated| stated.part),
+        part,
     };
     let name = shown_name(file, options.stdin_name);
     let read = match visit_file(rt, file, begin, checker) {
@@ -359,7 +356,13 @@ fn check_entries(
 }
 
 /// Checks a file with the settings of its folder, and returns the status.
-fn check_file(rt: &HostRuntime, file: &str, options: &Options, totals: &mut Totals) -> u8 {
+fn check_file(
+    rt: &HostRuntime,
+    file: &str,
+    options: &Options,
+    totals: &mut Totals,
+    stated: Option<&StatedPart>,
+) -> u8 {
     let name = shown_name(file, options.stdin_name);
     let path = if name == "-" {
         Ok(None)
@@ -372,7 +375,7 @@ fn check_file(rt: &HostRuntime, file: &str, options: &Options, totals: &mut Tota
         Err(_) => return Unusable::OutOfMemory.exit_status(rt, name),
     };
     match settings_of(rt, path.as_str(), options) {
-        Ok(settings) => check_with(rt, file, options, &settings, totals),
+        Ok(settings) => check_with(rt, file, options, &settings, totals, stated),
         Err(error) => error.exit_status(rt, path.as_str()),
     }
 }
@@ -421,12 +424,13 @@ fn stated_part<'o>(
 }
 
 /// Checks a file, and returns the status.
-fn check_with(
-    rt: &HostRuntime,
-    file: &str,
-    options: &Options,
-    settings: &Settings,
+fn check_with<'c>(
+    rt: &'c HostRuntime,
+    file: &'c str,
+    options: &'c Options<'c>,
+    settings: &'c Settings,
     totals: &mut Totals,
+    stated: Option<&StatedPart>,
 ) -> u8 {
     let policy = Policy {
         allowed: settings.allowed.as_slice(),
@@ -445,9 +449,9 @@ fn check_with(
         is_standard: file == "-",
         is_text: options.is_text,
     };
-    let state = match options.part {
-        Some(stated) => stated.state.copied(),
-        None => first_state(options.class, options.zone.origin(name)),
+    let (state, part) = match stated {
+        Some(stated) => (stated.state.copied(), Some(stated.part)),
+        None => (first_state(options.class, options.zone.origin(name)), None),
     };
     let mut reporter = Reporter::new(rt, policy, options.form, options.most);
     if options.omits_warnings {
@@ -468,13 +472,22 @@ fn check_with(
     if let Some(size) = size_of(rt, file) {
         checker.expect(size);
     }
-    let checked = check_entries(rt, file, options, settings, &mut checker, state);
+    let checked = check_entries(rt, file, options, settings, &mut checker, state, part);
     let ended = checker.findings.reporter.end_file();
     totals.add(&mut checker.findings.reporter);
-    match (checked, ended) {
-        (Ok(true), Ok(())) => checker.findings.reporter.tally.status(),
-        (Ok(false), Ok(())) => EXIT_IO,
-        (Err(stop), _) | (_, Err(stop)) => exit_status(rt, name, stop),
+    let is_read = match checked {
+        Ok(is_read) => is_read,
+        Err(stop) => return exit_status(rt, name, stop),
+    };
+    match ended {
+        Ok(()) => {
+            if is_read {
+                checker.findings.reporter.tally.status()
+            } else {
+                EXIT_IO
+            }
+        }
+        Err(stop) => exit_status(rt, name, stop),
     }
 }
 
@@ -506,12 +519,13 @@ pub fn check_argument(
     file: &str,
     options: &Options,
     totals: &mut Totals,
+    stated: Option<&StatedPart>,
 ) -> io::Result<u8> {
     let name = shown_name(file, options.stdin_name);
     if options.zone.lacks_name(name) {
         return report_no_zone(rt, name);
     }
-    let status = check_file(rt, file, options, totals);
+    let status = check_file(rt, file, options, totals, stated);
     if has_journal(rt, file)? {
         totals.journals = totals.journals.saturating_add(1);
         if !options.is_many {
@@ -522,18 +536,18 @@ pub fn check_argument(
 }
 
 /// Checks files by the arguments, and returns the greatest status.
-fn check_files(
+fn check_files<'c>(
     rt: &HostRuntime,
-    inner: &ArgMatches,
+    inner: &'c ArgMatches,
     files: &[&str],
-    codes: &mut Codes,
+    codes: &'c mut Codes,
 ) -> io::Result<u8> {
     let is_many = !inner.get_flag("text") && many_zones::names_many(rt, inner, files);
     let part = match stated_part(rt, inner, files) {
         Ok(part) => part,
         Err(usage) => return options::status_of(rt, Err(usage)),
     };
-    let options = match options_of(rt, inner, is_many, codes, part.as_ref()) {
+    let options = match options_of(rt, &*inner, is_many, codes) {
         Ok(options) => options,
         Err(usage) => return options::status_of(rt, Err(usage)),
     };
@@ -546,7 +560,7 @@ fn check_files(
     let status = if is_many {
         many_zones::run(rt, inner, &options, &mut totals)?
     } else {
-        check_each(rt, files, &options, &mut totals)?
+        check_each(rt, files, &options, &mut totals, part.as_ref())?
     };
     baseline_file::finish(rt, inner, &totals, status)
 }
@@ -557,10 +571,11 @@ fn check_each(
     files: &[&str],
     options: &Options,
     totals: &mut Totals,
+    stated: Option<&StatedPart>,
 ) -> io::Result<u8> {
     let mut status = totals.start(rt);
     for file in files {
-        status = check_argument(rt, file, options, totals)?.max(status);
+        status = check_argument(rt, file, options, totals, stated)?.max(status);
     }
     Ok(totals.end(rt).max(status))
 }

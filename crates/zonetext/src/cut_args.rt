@@ -75,27 +75,18 @@ fn count_of<'o>(option: &'static str, value: &'o str) -> Result<usize, Usage<'o>
     }
 }
 
-/// Returns the class of the command.
-fn class_in<'o>(inner: &'o ArgMatches) -> Result<Class, Usage<'o>> {
-    match class_of(inner.get_str("class")) {
-        Ok(class) => Ok(class),
-        Err(usage) => Err(usage),
-    }
-}
-
 /// Cuts a file by the arguments.
-fn cut_by<'o>(
-    rt: &HostRuntime,
-    inner: &'o ArgMatches,
-    count: &'o str,
-    file: &'o str,
-    prefix: &'o str,
-) -> Result<u8, Usage<'o>> {
+fn cut_by<'o>(rt: &HostRuntime, inner: &'o ArgMatches) -> Result<u8, Usage<'o>> {
     let base: Option<&'o str> = None;
+    let file = inner.get_str("FILE").unwrap_or("-");
     let zone = zone_of_files(inner, &[file], true)?;
+    let class = match class_of(inner.get_str("class")) {
+        Ok(class) => class,
+        Err(usage) => return Err(usage),
+    };
     let reading = Reading {
         zone,
-        class: class_in(inner)?,
+        class,
         is_one_class: false,
         includes: false,
         max_entry: max_entry_of(inner)?,
@@ -112,46 +103,48 @@ fn cut_by<'o>(
         part: None,
     };
     let work = cut::CutOptions {
-        count: count_of("N", count)?,
-        prefix,
+        count: count_of("N", inner.get_str("N").unwrap_or(""))?,
+        prefix: inner.get_str("output").unwrap_or("part"),
         repeats_soa: inner.get_flag("soa"),
     };
     Ok(cut::run(rt, file, &reading, work))
 }
 
-/// Prints where parts of a file begin, by the arguments.
-fn print_offsets<'o>(
-    rt: &HostRuntime,
-    inner: &'o ArgMatches,
-    count: &'o str,
-    file: &'o str,
-) -> Result<u8, Usage<'o>> {
+/// Prints where parts of a file begin, by the arguments. The file is the first one.
+fn print_offsets<'o>(rt: &HostRuntime, inner: &'o ArgMatches) -> Result<u8, Usage<'o>> {
+    let file = inner.get_str("N").unwrap_or("-");
     let zone = zone_of_files(inner, &[file], true)?;
-    let state = State::new(class_in(inner)?);
+    let class = match class_of(inner.get_str("class")) {
+        Ok(class) => class,
+        Err(usage) => return Err(usage),
+    };
+    let state = State::new(class);
     let state = match zone.origin(file) {
         Some(origin) => state.with_origin(origin),
         None => state,
     };
     let options = OffsetOptions {
-        count: count_of("--offsets", count)?,
+        count: count_of("--offsets", inner.get_str("offsets").unwrap_or(""))?,
         max_entry: max_entry_of(inner)?,
         is_quiet: inner.get_flag("quiet"),
     };
     Ok(cut::print_offsets(rt, file, state, options))
 }
 
-/// Runs the command by its arguments: `N FILE -o PREFIX`, or `--offsets N FILE`, whose file is the first
-/// argument.
+/// Runs the command by its arguments: `N FILE -o PREFIX`, or `--offsets N FILE`.
 fn run_by<'o>(rt: &HostRuntime, inner: &'o ArgMatches) -> Result<u8, Usage<'o>> {
-    let first: &'o str = inner.get_str("N").unwrap_or("");
-    let second = inner.get_str("FILE");
-    match (inner.get_str("offsets"), second, inner.get_str("output")) {
-        (Some(count), None, None) => print_offsets(rt, inner, count, first),
-        (None, Some(file), Some(prefix)) => cut_by(rt, inner, first, file, prefix),
-        _ => Err(Usage::Arguments {
-            wants: "cut N FILE -o PREFIX, or cut --offsets N FILE",
-        }),
+    let prints_offsets = inner.get_str("offsets").is_some();
+    let has_second = inner.get_str("FILE").is_some();
+    let has_output = inner.get_str("output").is_some();
+    if prints_offsets && !has_second && !has_output {
+        return print_offsets(rt, inner);
     }
+    if !prints_offsets && has_second && has_output {
+        return cut_by(rt, inner);
+    }
+    Err(Usage::Arguments {
+        wants: "cut N FILE -o PREFIX, or cut --offsets N FILE",
+    })
 }
 
 /// Runs the command `cut`, and returns the status.

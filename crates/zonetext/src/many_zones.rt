@@ -310,10 +310,9 @@ fn check_source(
         is_quiet: options.is_quiet,
         is_many: true,
         omits_warnings: options.omits_warnings,
-        part: None,
         file_place: source.file_place.as_ref(),
     };
-    check_argument(rt, source.file.as_str(), &own, totals)
+    check_argument(rt, source.file.as_str(), &own, totals, None)
 }
 
 /// Checks zones, and returns the greatest status.

@@ -74,6 +74,19 @@ impl<'u> UnreadFile<'u> {
             None => format!(in alloc; "cannot read '{name}': {why}"),
         }
     }
+
+    /// Returns the message, if a cause is that the file can't be read.
+    fn message_of(&self, alloc: Global, stop: &RunError) -> Result<Option<String>, AllocError> {
+        match stop {
+            RunError::Read { file, error } => {
+                if self.is_cause(file.as_str(), error) {
+                    return Ok(Some(self.message(alloc, error)?));
+                }
+                Ok(None)
+            }
+            _ => Ok(None),
+        }
+    }
 }
 
 /// Reports that a zone file can't be read, and returns `false`. Another cause is returned as it is.
@@ -83,13 +96,11 @@ pub fn report_unread(
     unread: UnreadFile<'_>,
     stop: RunError,
 ) -> Result<bool, RunError> {
-    match stop {
-        RunError::Read { file, error } if unread.is_cause(file.as_str(), &error) => {
-            let message = unread.message(rt.alloc(), &error)?;
-            let text = FindingText::message(message.as_str());
-            reporter.report(unread.location(), Code::File, true, text)?;
-            Ok(false)
-        }
-        other => Err(other),
-    }
+    let message = unread.message_of(rt.alloc(), &stop)?;
+    let Some(message) = message else {
+        return Err(stop);
+    };
+    let text = FindingText::message(message.as_str());
+    reporter.report(unread.location(), Code::File, true, text)?;
+    Ok(false)
 }
