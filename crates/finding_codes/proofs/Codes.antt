@@ -8,14 +8,14 @@ use Rattle.std.proofs.lemmas.Slice.Eq.{bytes_eq-Decides}
 use Rattle.finding_codes.specs.declared.code.Code.{Code}
 use Rattle.finding_codes.specs.declared.code.Code.TheVariants.{OpenQuote}
 use Rattle.finding_codes.specs.Code.{code_name, code_named}
-use Rattle.finding_codes.specs.Table.{FindingRow, finding_rows}
+use Rattle.finding_codes.specs.Table.{FindingRow, finding_rows, first_rows, later_rows}
 
 -- the row is that of its code
 abbrev is_own : FindingRow → Bool
 is_own r = bytes_eq (code_name r.code) r.name
 
 all_own : list_all is_own finding_rows ≡ true
-unfolding finding_rows
+unfolding finding_rows first_rows later_rows
 all_own = refl
 
 one_more : (t : List ℕ) (r : FindingRow) (rs : List FindingRow) (b : Bool) → b ≡ bytes_eq r.name t → is_own r ≡ true → IfSome (code_named rs t) (λ c. code_name c ≡ t)
@@ -33,7 +33,7 @@ found_has_name t = found_in t finding_rows all_own
 
 -- each code is the first of all with its name
 first_of_all : (c : Code) → code_named finding_rows (code_name c) ≡ Some c
-unfolding finding_rows
+unfolding finding_rows first_rows later_rows
 first_of_all OpenQuote = refl
 first_of_all _ = refl
 

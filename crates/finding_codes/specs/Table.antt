@@ -1,9 +1,9 @@
 -- The table of codes: the name of each, its severity, what is looked at, what is true of few codes, and the message.
-use Rattle.std.specs.Prelude.{ℕ, List, [], ◌∷◌, codes, true, false, get_or}
+use Rattle.std.specs.Prelude.{ℕ, List, [], ◌∷◌, ◌++◌, codes, true, false, get_or}
 use denote.Enum.Declared.{tag_of}
 use Rattle.finding_codes.specs.contracts.code.Code.{the_type}
 use Rattle.finding_codes.specs.declared.code.Code.{Code}
-use Rattle.finding_codes.specs.declared.code.Code.TheVariants.{OpenQuote, OpenParenthesis, ClosingParenthesis, LoneReturn, BadEscape, Nul, ByteOrderMark, ControlZ, MaxEntry, Directive, Owner, Ttl, Class, RecordType, Data, Include, File, NoOwner, NoTtl, OtherClass, NoSoa, TwoSoas, NoNs, NsAddress, Cname, Dname, DsApex, WildcardNs, SoaNotApex, NsBesideDname, Nsec3Wildcard, BelowDname, Outside, MaxTtl, NoOrigin, HighOctet, ControlOctet, Crlf, NestedParentheses, LeadingParenthesis, AdjacentTokens, NoFinalNewline, RelativeOrigin, SoaMinimumTtl, IncludeTtl, MissingDot, GenerateDot, EmptyUri, TlsaLength, IpseckeyAlgorithm, OhttpValue, Glue, TargetCname, TargetMissing, HostName, Cds, TtlDiffers, Duplicate, NotAtApex, KeyProtocol, KeyAlgorithm, CnameTargetMissing, CnameLoop, TwoSpf, WeakDigest, SingleNs, Hidden, NoDnskey, Expired, ExpiresSoon, NotYetValid, RrsigTimes, RrsigSigner, RrsigLabels, OriginalTtl, RrsigTtl, Unsigned, NoKey, KeyMissing, RrsigKey, SignsNothing, OccludedDnssec, NoNsec, NsecNext, NsecTypes, DsWithoutNs, NoNsec3, Nsec3Next, Nsec3Types, Nsec3Owner, Nsec3Iterations, Nsec3Iterations50, Nsec3Iterations0, NsecTtl, CdsDelete, RrsigLength, KeyLength, Nsec3Extra, RrsigAlgorithm, OptOut, SpfType, NaptrRegexp, NaptrBoth, CaaTag, SoaMail, SoaTimers, ReverseName, WildcardInside, TargetAddress, TxtWords, CommentInData, PtrDot, TlsaField, CaaValue, Spf, NullMx, ZonemdSerial, TlsaHost, SvcbAlias, Exception, UnusedAllow}
+use Rattle.finding_codes.specs.declared.code.Code.TheVariants.{OpenQuote, OpenParenthesis, ClosingParenthesis, LoneReturn, BadEscape, Nul, ByteOrderMark, ControlZ, MaxEntry, Directive, Owner, Ttl, Class, RecordType, Data, Include, File, NoOwner, NoTtl, OtherClass, NoSoa, TwoSoas, NoNs, NsAddress, Cname, Dname, DsApex, WildcardNs, SoaNotApex, NsBesideDname, Nsec3Wildcard, BelowDname, Outside, MaxTtl, NoOrigin, HighOctet, ControlOctet, Crlf, NestedParentheses, LeadingParenthesis, AdjacentTokens, NoFinalNewline, RelativeOrigin, SoaMinimumTtl, IncludeTtl, MissingDot, GenerateDot, EmptyUri, TlsaLength, IpseckeyAlgorithm, OhttpValue, Glue, TargetCname, TargetMissing, HostName, Cds, TtlDiffers, Duplicate, NotAtApex, KeyProtocol, KeyAlgorithm, CnameTargetMissing, CnameLoop, TwoSpf, WeakDigest, SingleNs, Hidden, NoDnskey, Expired, ExpiresSoon, NotYetValid, RrsigTimes, RrsigSigner, RrsigLabels, OriginalTtl, RrsigTtl, Unsigned, NoKey, KeyMissing, RrsigKey, SignsNothing, OccludedDnssec, NoNsec, NsecNext, NsecTypes, DsWithoutNs, NoNsec3, Nsec3Next, Nsec3Types, Nsec3Owner, Nsec3Iterations, Nsec3Iterations50, Nsec3Iterations0, NsecTtl, CdsDelete, RrsigLength, KeyLength, Nsec3Extra, RrsigAlgorithm, OptOut, SpfType, NaptrRegexp, NaptrBoth, CaaTag, SoaMail, SoaTimers, ReverseName, WildcardInside, TargetAddress, TxtWords, CommentInData, PtrDot, TlsaField, CaaValue, Spf, NullMx, ZonemdSerial, TlsaHost, SvcbAlias, CdsKey, CdsDiffers, UnsignedApex, Unportable, KeyBesideCname, SpfUnused, SpfLookups, Dmarc, Dkim, Delegation, DelegationDs, GlueDiffers, Exception, UnusedAllow}
 use Rattle.finding_codes.specs.declared.code.Scope.{Scope}
 use Rattle.finding_codes.specs.declared.code.Scope.TheVariants.{Text as OfText, Records as OfRecords, MaxTtl as OfTtl, Zone as OfZone, Signed as OfSigned}
 use Rattle.finding_codes.specs.declared.code.Severity.{Severity}
@@ -56,9 +56,9 @@ of_absence = record { is_text_fault = false; is_of_absence = true; is_of_time = 
 abbrev of_time : Traits
 of_time = record { is_text_fault = false; is_of_absence = false; is_of_time = true }
 
--- the rows are in the order of the codes
-unfoldable pub finding_rows : List FindingRow
-finding_rows =
+-- the rows of codes of texts, records, and of zones without signatures
+unfoldable pub first_rows : List FindingRow
+first_rows =
     finding_row OpenQuote (codes "open-quote") Error OfText text_fault Whole [] ∷
     finding_row OpenParenthesis (codes "open-parenthesis") Error OfText text_fault Whole [] ∷
     finding_row ClosingParenthesis (codes "closing-parenthesis") Error OfText text_fault Whole [] ∷
@@ -96,7 +96,7 @@ finding_rows =
     finding_row NoOrigin (codes "no-origin") Warning OfRecords none Whole (codes "relative name, and no origin: read below the root") ∷
     finding_row HighOctet (codes "high-octet") Warning OfText none Whole (codes "octet outside of ASCII") ∷
     finding_row ControlOctet (codes "control-octet") Warning OfText none Whole (codes "control octet") ∷
-    finding_row Crlf (codes "crlf") Warning OfText none Whole (codes "lines end in CR LF") ∷
+    finding_row Crlf (codes "crlf") Warning OfText none Whole (codes "lines end in CR LF: Knot rejects the file") ∷
     finding_row NestedParentheses (codes "nested-parentheses") Warning OfText none Whole (codes "parenthesis inside of parentheses") ∷
     finding_row LeadingParenthesis (codes "leading-parenthesis") Warning OfText none Whole (codes "entry begins with a parenthesis") ∷
     finding_row AdjacentTokens (codes "adjacent-tokens") Warning OfRecords none Whole (codes "no blank between two tokens") ∷
@@ -126,6 +126,11 @@ finding_rows =
     finding_row WeakDigest (codes "weak-digest") Warning OfZone of_absence Whole (codes "SHA-1 is the only digest of this key") ∷
     finding_row SingleNs (codes "single-ns") Warning OfZone of_absence Whole (codes "zone has only one name server") ∷
     finding_row Hidden (codes "hidden") Warning OfZone none Whole (codes "hidden by a delegation") ∷
+    []
+
+-- the rows of the other codes
+unfoldable pub later_rows : List FindingRow
+later_rows =
     finding_row NoDnskey (codes "no-dnskey") Error OfSigned none Whole (codes "no DNSKEY at the apex: the zone is not signed") ∷
     finding_row Expired (codes "expired") Error OfSigned of_time Whole (codes "signature has expired") ∷
     finding_row ExpiresSoon (codes "expires-soon") Warning OfSigned of_time Whole (codes "signature expires soon") ∷
@@ -178,9 +183,25 @@ finding_rows =
     finding_row ZonemdSerial (codes "zonemd-serial") Warning OfZone none Whole (codes "serial of the ZONEMD is not that of the SOA") ∷
     finding_row TlsaHost (codes "tlsa-host") Warning OfZone of_absence Whole (codes "host of the TLSA has no address in the zone") ∷
     finding_row SvcbAlias (codes "svcb-alias") Warning OfZone none Target (codes "parameters of an alias (priority 0), which have no effect") ∷
+    finding_row CdsKey (codes "cds-key") Error OfSigned none Whole (codes "no CDS is of a DNSKEY of the zone") ∷
+    finding_row CdsDiffers (codes "cds-differs") Warning OfSigned none Whole (codes "CDS and CDNSKEY are not of the same keys") ∷
+    finding_row UnsignedApex (codes "unsigned-apex") Warning OfSigned none Whole (codes "zone has signatures, and its apex has none") ∷
+    finding_row Unportable (codes "unportable") Warning OfRecords none Whole [] ∷
+    finding_row KeyBesideCname (codes "key-beside-cname") Warning OfZone none OwnOwner (codes "KEY beside a CNAME: Knot, NSD and ldns reject it") ∷
+    finding_row SpfUnused (codes "spf-unused") Warning OfRecords none (Field 0) (codes "term of an SPF record that no receiver reaches") ∷
+    finding_row SpfLookups (codes "spf-lookups") Warning OfZone none Whole (codes "SPF record with more than 10 look-ups") ∷
+    finding_row Dmarc (codes "dmarc") Warning OfRecords none (Field 0) (codes "malformed DMARC record, which has no effect") ∷
+    finding_row Dkim (codes "dkim") Warning OfRecords none (Field 0) (codes "malformed DKIM key record, which has no effect") ∷
+    finding_row Delegation (codes "delegation") Warning OfZone of_absence Target [] ∷
+    finding_row DelegationDs (codes "delegation-ds") Warning OfZone of_absence Whole (codes "no DS is of a DNSKEY of the zone below") ∷
+    finding_row GlueDiffers (codes "glue-differs") Warning OfZone of_absence Whole (codes "address is not one that the zone below has") ∷
     finding_row Exception (codes "exception") Error OfRecords none Whole [] ∷
     finding_row UnusedAllow (codes "unused-allow") Warning OfRecords none Whole [] ∷
     []
+
+-- the rows are in the order of the codes
+unfoldable pub finding_rows : List FindingRow
+finding_rows = first_rows ++ later_rows
 
 -- a row of the source
 abbrev pub row_seen : Row → FindingRow

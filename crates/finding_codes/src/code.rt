@@ -1,9 +1,9 @@
 //! The codes of findings in zone files.
 ghost use Rattle.std.specs.Prelude.{◌≡◌, IfSome, Some, map};
 ghost use Rattle.finding_codes.specs.Code.{code_name, code_named, code_scope, default_severity, finding_text, is_of_absence, is_of_text, is_of_time, is_text_fault, severity_name};
-ghost use Rattle.finding_codes.specs.Table.{row_of_code, row_seen};
+ghost use Rattle.finding_codes.specs.Table.{finding_rows, row_of_code, row_seen};
 
-use crate::table::{Row, rows};
+use crate::table::{Row, find_code};
 
 /// The severity of a finding.
 #[derive(Clone, Copy, PartialEq, Eq)]
@@ -318,6 +318,30 @@ pub enum Code {
     TlsaHost,
     /// An SVCB or HTTPS in AliasMode has parameters, or is not alone.
     SvcbAlias,
+    /// No CDS, or no CDNSKEY, is of a DNSKEY of the apex.
+    CdsKey,
+    /// The CDS and the CDNSKEY of the apex are not of the same keys.
+    CdsDiffers,
+    /// A zone has a DNSKEY and signatures, but none of the SOA or NS of its apex.
+    UnsignedApex,
+    /// A word that not every name server reads.
+    Unportable,
+    /// A KEY is at the owner of a CNAME.
+    KeyBesideCname,
+    /// An SPF record has a term that no receiver reaches.
+    SpfUnused,
+    /// An SPF record needs more look-ups than receivers make.
+    SpfLookups,
+    /// A DMARC record is malformed.
+    Dmarc,
+    /// A DKIM key record is malformed.
+    Dkim,
+    /// A parent and a child zone of one run have other NS for the child.
+    Delegation,
+    /// No DS of a delegation is of a DNSKEY of the child zone of the same run.
+    DelegationDs,
+    /// An address at or below a delegation is not one that the zone below has.
+    GlueDiffers,
     /// An exception in a comment is malformed, or names an unknown code.
     Exception,
     /// An exception excepts no finding.
@@ -325,7 +349,7 @@ pub enum Code {
 }
 
 /// Returns the code of the first of some rows that has a name.
-fn find_named(rows: &[Row], name: &str) -> Option<Code>
+pub(crate) fn find_named(rows: &[Row], name: &str) -> Option<Code>
     ensures { result ≡ code_named (map row_seen rows.now) name.now }
 {
     for row in rows {
@@ -349,7 +373,7 @@ impl Code {
         ensures named { IfSome result (λ c. code_name c ≡ name.now) }
         ensures each { (c : Code) → code_name c ≡ name.now → result ≡ Some c }
     {
-        find_named(rows(), name)
+        find_code(name)
     }
 
     /// Returns whether the text itself is malformed: it can't be read as entries, or not safely.

@@ -1,8 +1,10 @@
-//! The table of codes: a row for each, in the order of [`Code`], and the further ways of a few.
-ghost use Rattle.std.specs.Prelude.{◌≡◌, ◌<◌, get_or, length, map};
-ghost use Rattle.finding_codes.specs.Table.{finding_rows, no_row, row_of_code, row_seen, way_rows, way_seen};
+//! The table of codes: a row for each, in the order of [`Code`], in two parts, and the further ways
+//! of a few. The prover takes no static of all rows.
+ghost use Rattle.std.specs.Prelude.{◌≡◌, ◌<◌, ◌≤◌, get_or, length, map, IfSome, None};
+ghost use Rattle.finding_codes.specs.Code.{code_named};
+ghost use Rattle.finding_codes.specs.Table.{finding_rows, first_rows, later_rows, no_row, row_of_code, row_seen, way_rows, way_seen};
 
-use crate::code::{Code, Scope, Severity};
+use crate::code::{Code, Scope, Severity, find_named};
 
 /// What is true of a few codes.
 #[derive(Clone, Copy)]
@@ -128,7 +130,7 @@ macro_rules! way {
     };
 }
 
-static TABLE: [Row; 121] = [
+static FIRST_ROWS: [Row; 67] = [
     row!(OpenQuote => "open-quote", Error, Text, TEXT_FAULT, WHOLE, ""),
     row!(OpenParenthesis => "open-parenthesis", Error, Text, TEXT_FAULT, WHOLE, ""),
     row!(ClosingParenthesis => "closing-parenthesis", Error, Text, TEXT_FAULT, WHOLE, ""),
@@ -166,7 +168,7 @@ static TABLE: [Row; 121] = [
     row!(NoOrigin => "no-origin", Warning, Records, NONE, WHOLE, "relative name, and no origin: read below the root"),
     row!(HighOctet => "high-octet", Warning, Text, NONE, WHOLE, "octet outside of ASCII"),
     row!(ControlOctet => "control-octet", Warning, Text, NONE, WHOLE, "control octet"),
-    row!(Crlf => "crlf", Warning, Text, NONE, WHOLE, "lines end in CR LF"),
+    row!(Crlf => "crlf", Warning, Text, NONE, WHOLE, "lines end in CR LF: Knot rejects the file"),
     row!(NestedParentheses => "nested-parentheses", Warning, Text, NONE, WHOLE, "parenthesis inside of parentheses"),
     row!(LeadingParenthesis => "leading-parenthesis", Warning, Text, NONE, WHOLE, "entry begins with a parenthesis"),
     row!(AdjacentTokens => "adjacent-tokens", Warning, Records, NONE, WHOLE, "no blank between two tokens"),
@@ -196,6 +198,9 @@ static TABLE: [Row; 121] = [
     row!(WeakDigest => "weak-digest", Warning, Zone, ABSENCE, WHOLE, "SHA-1 is the only digest of this key"),
     row!(SingleNs => "single-ns", Warning, Zone, ABSENCE, WHOLE, "zone has only one name server"),
     row!(Hidden => "hidden", Warning, Zone, NONE, WHOLE, "hidden by a delegation"),
+];
+
+static LATER_ROWS: [Row; 66] = [
     row!(NoDnskey => "no-dnskey", Error, Signed, NONE, WHOLE, "no DNSKEY at the apex: the zone is not signed"),
     row!(Expired => "expired", Error, Signed, TIME, WHOLE, "signature has expired"),
     row!(ExpiresSoon => "expires-soon", Warning, Signed, TIME, WHOLE, "signature expires soon"),
@@ -248,6 +253,18 @@ static TABLE: [Row; 121] = [
     row!(ZonemdSerial => "zonemd-serial", Warning, Zone, NONE, WHOLE, "serial of the ZONEMD is not that of the SOA"),
     row!(TlsaHost => "tlsa-host", Warning, Zone, ABSENCE, WHOLE, "host of the TLSA has no address in the zone"),
     row!(SvcbAlias => "svcb-alias", Warning, Zone, NONE, TARGET, "parameters of an alias (priority 0), which have no effect"),
+    row!(CdsKey => "cds-key", Error, Signed, NONE, WHOLE, "no CDS is of a DNSKEY of the zone"),
+    row!(CdsDiffers => "cds-differs", Warning, Signed, NONE, WHOLE, "CDS and CDNSKEY are not of the same keys"),
+    row!(UnsignedApex => "unsigned-apex", Warning, Signed, NONE, WHOLE, "zone has signatures, and its apex has none"),
+    row!(Unportable => "unportable", Warning, Records, NONE, WHOLE, ""),
+    row!(KeyBesideCname => "key-beside-cname", Warning, Zone, NONE, OWNER, "KEY beside a CNAME: Knot, NSD and ldns reject it"),
+    row!(SpfUnused => "spf-unused", Warning, Records, NONE, FIELD_0, "term of an SPF record that no receiver reaches"),
+    row!(SpfLookups => "spf-lookups", Warning, Zone, NONE, WHOLE, "SPF record with more than 10 look-ups"),
+    row!(Dmarc => "dmarc", Warning, Records, NONE, FIELD_0, "malformed DMARC record, which has no effect"),
+    row!(Dkim => "dkim", Warning, Records, NONE, FIELD_0, "malformed DKIM key record, which has no effect"),
+    row!(Delegation => "delegation", Warning, Zone, ABSENCE, TARGET, ""),
+    row!(DelegationDs => "delegation-ds", Warning, Zone, ABSENCE, WHOLE, "no DS is of a DNSKEY of the zone below"),
+    row!(GlueDiffers => "glue-differs", Warning, Zone, ABSENCE, WHOLE, "address is not one that the zone below has"),
     row!(Exception => "exception", Error, Records, NONE, WHOLE, ""),
     row!(UnusedAllow => "unused-allow", Warning, Records, NONE, WHOLE, ""),
 ];
@@ -318,11 +335,18 @@ pub fn ways() -> &'static [Way; 11]
     &WAYS
 }
 
-/// Returns the rows of all codes, in their order.
-pub fn rows() -> &'static [Row; 121]
-    ensures { map row_seen result.now ≡ finding_rows }
+/// Returns the rows of the first codes, in their order.
+fn first_rows() -> &'static [Row; 67]
+    ensures { map row_seen result.now ≡ first_rows }
 {
-    &TABLE
+    &FIRST_ROWS
+}
+
+/// Returns the rows of the other codes, in their order.
+fn later_rows() -> &'static [Row; 66]
+    ensures { map row_seen result.now ≡ later_rows }
+{
+    &LATER_ROWS
 }
 
 /// Returns the row at an index.
@@ -333,11 +357,52 @@ fn row_in(rows: &[Row], at: usize) -> &Row
     &rows[at]
 }
 
+/// Number of codes.
+pub const COUNT: usize = 133;
+
+/// Number of the first codes.
+const FIRST_COUNT: usize = 67;
+
+/// Returns the row at an index of both tables.
+fn row_of_index(at: usize) -> &'static Row
+    requires { at < 133 }
+    ensures { row_seen result.now ≡ get_or finding_rows at no_row }
+{
+    if at < FIRST_COUNT {
+        row_in(first_rows(), at)
+    } else {
+        row_in(later_rows(), at - FIRST_COUNT)
+    }
+}
+
+/// Returns the row of the code with a number from 0 on, in the order of [`Code`]. There is one below
+/// [`COUNT`].
+pub fn row_at(number: usize) -> Option<&'static Row>
+    ensures some { IfSome result (λ r. row_seen r.now ≡ get_or finding_rows number no_row) }
+    ensures none { result ≡ None → length finding_rows ≤ number }
+{
+    if number < COUNT {
+        Some(row_of_index(number))
+    } else {
+        None
+    }
+}
+
+/// Returns the code of the first row with a name.
+pub(crate) fn find_code(name: &str) -> Option<Code>
+    ensures { result ≡ code_named finding_rows name.now }
+{
+    match find_named(first_rows(), name) {
+        None => find_named(later_rows(), name),
+        code => code,
+    }
+}
+
 impl Code {
     /// Returns the row of a code.
     pub fn row(self) -> &'static Row
         ensures { row_seen result.now ≡ row_of_code self }
     {
-        row_in(rows(), self as usize)
+        row_of_index(self as usize)
     }
 }

@@ -16,7 +16,7 @@ use Rattle.finding_codes.specs.declared.code.Severity.TheVariants.{Error, Warnin
 use Rattle.finding_formats.specs.declared.finding.Finding.{Finding}
 use Rattle.finding_formats.specs.declared.escape.Context.TheVariants.{Json}
 use Rattle.finding_codes.specs.Code.{code_name, severity_name}
-use Rattle.finding_codes.specs.Table.{finding_rows}
+use Rattle.finding_codes.specs.Table.{finding_rows, first_rows, later_rows}
 use Rattle.finding_formats.specs.Lines.{FindingsAreLines, IsOneLine, IsUpToOneLine, bold, bracketed_code, finding_line, further_line, opened_text, place_text, position_text, severity_style, severity_text, style_if, subject_part, subject_text, unstyled}
 use Rattle.finding_formats.specs.Escape.{escaped}
 use Rattle.finding_formats.specs.Json.{json_line}
@@ -124,7 +124,7 @@ weight_none b s =
     both ((((codes " " ++ style_if b (severity_style s)) ++ severity_name s) ++ codes ":") ++ style_if b unstyled) (codes " ") plain refl
 
 code_none : (c : Code) → HasNone (code_name c)
-unfolding finding_rows
+unfolding finding_rows first_rows later_rows
 code_none OpenQuote = refl
 code_none _ = refl
 

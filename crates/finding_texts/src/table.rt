@@ -131,6 +131,21 @@ pub fn summary_of(code: Code) -> &'static str {
         Code::TlsaHost => "The host of a TLSA has no address in the zone",
         Code::SvcbAlias =>
             "An SVCB or HTTPS of priority 0 has parameters, or its name has others of the type",
+        Code::CdsKey => "No CDS, or no CDNSKEY, is of a DNSKEY of the zone",
+        Code::CdsDiffers => "The CDS and the CDNSKEY of the apex are not of the same keys",
+        Code::UnsignedApex =>
+            "A zone has a DNSKEY and signatures, but no signature of SOA or NS at its apex",
+        Code::Unportable => "A name server rejects a word of the record",
+        Code::KeyBesideCname => "A KEY is at the owner of a CNAME",
+        Code::SpfUnused => "An SPF record has a mechanism after all, or a redirect beside it",
+        Code::SpfLookups => "An SPF record, with those it includes, needs more than 10 look-ups",
+        Code::Dmarc => "A DMARC record is malformed",
+        Code::Dkim => "A DKIM key record is malformed",
+        Code::Delegation => "A zone and its parent, both checked, have other name servers for it",
+        Code::DelegationDs =>
+            "No DS of a delegation is of a DNSKEY of the zone below, which is signed and checked too",
+        Code::GlueDiffers =>
+            "An address below a delegation is not one of those in the zone that answers for it, which is checked too",
         Code::Exception => "An exception in a comment is malformed, or names an unknown code",
         Code::UnusedAllow => "An exception in a comment excepts no finding",
     }
@@ -365,6 +380,30 @@ pub fn text_of(code: Code) -> &'static str {
             "The owner of a TLSA is a port, a transport and the name of a host (RFC 6698 section 3). This host is in the zone, and has no A, AAAA or CNAME there. A wildcard above it gives it none: the TLSA makes the name exist (RFC 4592 section 2.2.3).",
         Code::SvcbAlias =>
             "A record of priority 0 is an alias of the service: it has no parameters, and is the only one of its type. Clients ignore its parameters, and the records of other priorities beside it (RFC 9460 sections 2.4.1 and 2.4.2). Of two aliases they use one at random.",
+        Code::CdsKey =>
+            "A parent that takes the CDS as its DS has none that fits a key, and validators reject the whole zone (RFC 7344 section 4.1). Write the CDS and CDNSKEY anew from the DNSKEY that signs the DNSKEY set.",
+        Code::CdsDiffers =>
+            "A child that publishes both types publishes them of the same keys (RFC 7344 section 4). A parent reads one of the two. Knot rejects the zone. Write both anew.",
+        Code::UnsignedApex =>
+            "A zone counts as signed if an RRSIG at its apex covers SOA or NS, so the rules of signed zones were not checked. Sign the whole zone, or remove what is left of signatures.",
+        Code::Unportable =>
+            "The zone can't be moved to a server that rejects the word, nor be transferred by text between servers. Write it as the help says: every server reads that.",
+        Code::KeyBesideCname =>
+            "RFC 4035 section 2.5 allows a KEY beside a CNAME and BIND loads it. Knot, NSD and ldns reject it. Move one of them.",
+        Code::SpfUnused =>
+            "Mechanisms are tried in order, and all matches every sender, so those after it have no effect (RFC 7208 section 5.1). A redirect is ignored if the record has all (section 6.1). Move all to the end.",
+        Code::SpfLookups =>
+            "A receiver makes at most 10 look-ups for the terms include, a, mx, ptr, exists and redirect, those of included records as well, and then treats the record as an error (RFC 7208 section 4.6.4). Records of other zones are not looked at. Write addresses as ip4 and ip6.",
+        Code::Dmarc =>
+            "A receiver ignores a record that doesn't begin with v=DMARC1, and tags whose values it doesn't know (RFC 7489 section 6.3).",
+        Code::Dkim =>
+            "A receiver can't use the key, and signatures by it don't count (RFC 6376 section 3.6.1, RFC 8463). Copy the record again from the signer, and keep it in quotes.",
+        Code::Delegation =>
+            "The parent's NS should be those of the zone itself (RFC 1034 section 4.2.2): a resolver uses the one and the other. Correct the delegation, or the zone.",
+        Code::DelegationDs =>
+            "Validators reject the whole zone below (RFC 4035 section 5.2). Write the DS anew from the DNSKEY that signs the DNSKEY set there.",
+        Code::GlueDiffers =>
+            "A resolver that begins with the parent's address may reach another host, or none (RFC 1034 section 4.2.2). Correct the address in the parent.",
         Code::Exception =>
             "It is written as '; zonetext: allow CODE, CODE' in a comment of the entry whose findings it excepts. A second semicolon begins a remark.",
         Code::UnusedAllow =>
@@ -522,6 +561,22 @@ pub fn example_of(code: Code) -> &'static str {
         Code::TlsaHost =>
             "_443._tcp.a TLSA 3 1 1 0123456789012345678901234567890123456789012345678901234567890123",
         Code::SvcbAlias => "a HTTPS 0 o. alpn=h2",
+        Code::CdsKey =>
+            "@ CDS 1 13 2 ABABABABABABABABABABABABABABABABABABABABABABABABABABABABABABABAB",
+        Code::CdsDiffers => "@ CDNSKEY 257 3 13 AQID",
+        Code::UnsignedApex =>
+            "@ DNSKEY 257 3 13 AQID\na RRSIG A 13 2 60 20260601000000 20251201000000 1 example. AQID",
+        Code::Unportable => "a=b TXT x",
+        Code::KeyBesideCname => "a CNAME o.\na KEY 256 3 8 AQID",
+        Code::SpfUnused => "a TXT \"v=spf1 -all mx\"",
+        Code::SpfLookups =>
+            "a TXT \"v=spf1 a:1.o a:2.o a:3.o a:4.o a:5.o a:6.o a:7.o a:8.o a:9.o a:10.o a:11.o -all\"",
+        Code::Dmarc => "_dmarc TXT \"v=DMARC1; p=rejct\"",
+        Code::Dkim => "s._domainkey TXT \"v=DKIM1; k=rsa\"",
+        Code::Delegation => "a NS ns",
+        Code::DelegationDs =>
+            "a NS ns\na DS 1 13 2 ABABABABABABABABABABABABABABABABABABABABABABABABABABABABABABABAB",
+        Code::GlueDiffers => "a NS ns.a\nns.a A 192.0.2.8",
         Code::Exception => "a A 192.0.2.2 ; zonetext: allow tll",
         Code::UnusedAllow => "a A 192.0.2.2 ; zonetext: allow host-name",
     }

@@ -11,7 +11,7 @@ use Rattle.zone_generate.specs.declared.part.Part.{Part}
 use Rattle.zone_generate.specs.declared.part.Part.TheVariants.{Number}
 use Rattle.zone_reader.specs.declared.ttl.RecordTtl.TheVariants.{Explicit, Minimum}
 use Rattle.finding_codes.specs.Rule.{coded_rule}
-use Rattle.finding_codes.specs.Table.{finding_rows, way_rows}
+use Rattle.finding_codes.specs.Table.{finding_rows, first_rows, later_rows, way_rows}
 use Rattle.finding_codes.specs.declared.code.Code.TheVariants.{AdjacentTokens, CaaTag, CnameLoop, CommentInData, ControlOctet, ControlZ, Data, Duplicate, GenerateDot, Glue, HighOctet, LeadingParenthesis, MaxEntry, MaxTtl, MissingDot, NaptrBoth, NaptrRegexp, NestedParentheses, NoFinalNewline, NoOrigin, NoOwner, Nul, ReverseName, SoaMail, SoaMinimumTtl, SoaTimers, SpfType, TargetAddress, Ttl, TtlDiffers, TxtWords, WildcardInside}
 use Rattle.zone_check.specs.declared.entry.EntryKind.TheVariants.{Blank, OneRecord, TooLong}
 use Rattle.zone_check.specs.declared.finding.About.TheVariants.{Entry, Octets, Rejection, RuleAtToken, RuleOfRecord, Token}
@@ -120,45 +120,45 @@ ohttp_alone = refl
 -- `@ SOA a b 1 60 90 ..`: retry is the fifth field
 retry : rule_finding (coded_rule SoaTimers 0) Rtype.soa false (word_at 0 (codes "@") ∷ [])
     (word_at 6 (codes "a") ∷ word_at 8 (codes "b") ∷ word_at 10 (codes "1") ∷ word_at 12 (codes "60") ∷ word_at 15 (codes "90") ∷ []) ≡ finding_at SoaTimers 15 2 (RuleAtToken (coded_rule SoaTimers 0))
-unfolding finding_rows way_rows
+unfolding finding_rows first_rows later_rows way_rows
 retry = refl
 
 -- `c NAPTR 1 1 "u" "x" "!a!b" .`: the regexp is the fifth field, with its quotes
 regexp : rule_finding (coded_rule NaptrRegexp 0) Rtype.naptr false (word_at 0 (codes "c") ∷ [])
     (word_at 8 (codes "1") ∷ word_at 10 (codes "1") ∷ quoted_at 12 (codes "u") ∷ quoted_at 16 (codes "x") ∷ quoted_at 20 (codes "!a!b") ∷ word_at 27 (codes ".") ∷ [])
     ≡ finding_at NaptrRegexp 20 6 (RuleAtToken (coded_rule NaptrRegexp 0))
-unfolding finding_rows way_rows
+unfolding finding_rows first_rows later_rows way_rows
 regexp = refl
 
 -- `r CAA 0 isue "ca.example"`, `r MX 10 192.0.2.1`, `r TXT v=spf1 a -all`, `r TXT v=DKIM1; p=abc`
 unknown_tag : rule_finding (coded_rule CaaTag 0) Rtype.caa false (word_at 0 (codes "r") ∷ []) (word_at 6 (codes "0") ∷ word_at 8 (codes "isue") ∷ quoted_at 13 (codes "ca.example") ∷ []) ≡ finding_at CaaTag 8 4 (RuleAtToken (coded_rule CaaTag 0))
-unfolding finding_rows way_rows
+unfolding finding_rows first_rows later_rows way_rows
 unknown_tag = refl
 
 address : rule_finding (coded_rule TargetAddress 0) Rtype.mx false (word_at 0 (codes "r") ∷ []) (word_at 5 (codes "10") ∷ word_at 8 (codes "192.0.2.1") ∷ []) ≡ finding_at TargetAddress 8 9 (RuleAtToken (coded_rule TargetAddress 0))
-unfolding finding_rows way_rows
+unfolding finding_rows first_rows later_rows way_rows
 address = refl
 
 words : rule_finding (coded_rule TxtWords 0) Rtype.txt false (word_at 0 (codes "r") ∷ []) (word_at 6 (codes "v=spf1") ∷ word_at 13 (codes "a") ∷ word_at 15 (codes "-all") ∷ []) ≡ finding_at TxtWords 6 6 (RuleAtToken (coded_rule TxtWords 0))
-unfolding finding_rows way_rows
+unfolding finding_rows first_rows later_rows way_rows
 words = refl
 
 comment : rule_finding (coded_rule CommentInData 0) Rtype.txt false (word_at 0 (codes "r") ∷ []) (word_at 6 (codes "v=DKIM1") ∷ []) ≡ finding_at CommentInData 6 7 (RuleAtToken (coded_rule CommentInData 0))
-unfolding finding_rows way_rows
+unfolding finding_rows first_rows later_rows way_rows
 comment = refl
 
 -- `b.*.a TXT "c"`: the owner
 wildcard_inside : rule_finding (coded_rule WildcardInside 0) Rtype.txt false (word_at 0 (codes "b.*.a") ∷ word_at 6 (codes "TXT") ∷ quoted_at 10 (codes "c") ∷ []) (quoted_at 10 (codes "c") ∷ []) ≡ finding_at WildcardInside 0 5 (RuleAtToken (coded_rule WildcardInside 0))
-unfolding finding_rows way_rows
+unfolding finding_rows first_rows later_rows way_rows
 wildcard_inside = refl
 
 -- `c NAPTR \# 17 ..` has no fields: the record as a whole
 generic_data : rule_finding (coded_rule NaptrBoth 0) Rtype.naptr false (word_at 0 (codes "c") ∷ word_at 2 (codes "NAPTR") ∷ word_at 8 (codes "\\#") ∷ []) (word_at 8 (codes "\\#") ∷ []) ≡ finding_at NaptrBoth 0 1 (RuleOfRecord (coded_rule NaptrBoth 0))
-unfolding finding_rows way_rows
+unfolding finding_rows first_rows later_rows way_rows
 generic_data = refl
 
 inherited_owner : rule_finding (coded_rule ReverseName 0) Rtype.ptr true (word_at 1 (codes "PTR") ∷ word_at 5 (codes "a.") ∷ []) (word_at 5 (codes "a.") ∷ []) ≡ finding_at ReverseName 1 3 (RuleOfRecord (coded_rule ReverseName 0))
-unfolding finding_rows way_rows
+unfolding finding_rows first_rows later_rows way_rows
 inherited_owner = refl
 
 -- the root is assumed as the origin: a mail name of one label is not a slip
@@ -205,11 +205,11 @@ abbrev lost_glue : Finding
 lost_glue = record { rule = coded_rule Glue 0; «record» = Some 3 }
 
 glue_at_target : reported_finding (record { is_zone = true; has_gap = false }) lost_glue ≡ Some (record { rule = coded_rule Glue 0; «record» = Some 3; is_at_target = true })
-unfolding finding_rows
+unfolding finding_rows first_rows later_rows
 glue_at_target = refl
 
 glue_after_gap : reported_finding (record { is_zone = true; has_gap = true }) lost_glue ≡ None
-unfolding finding_rows
+unfolding finding_rows first_rows later_rows
 glue_after_gap = refl
 
 -- without a zone two TTLs of an RRset are reported, and a CNAME that leads to itself is not

@@ -5,7 +5,7 @@ use clap::ArgMatches;
 use dns_wire::DisplayWithDot;
 use finding_codes::code::Code;
 use finding_codes::policy::Policy;
-use finding_codes::table::rows;
+use finding_codes::table::{COUNT, row_at};
 use finding_texts::similar::edits_between;
 use rdata_values::Class;
 use std::alloc::{AllocError, Global};
@@ -87,7 +87,10 @@ pub struct Options<'o> {
 /// Returns the name of the code to which the fewest edits lead from a word, if they are few.
 fn near_code(alloc: Global, word: &str) -> Result<Option<&'static str>, AllocError> {
     let mut best: Option<(usize, &'static str)> = None;
-    for row in rows() {
+    for number in 0..COUNT {
+        let Some(row) = row_at(number) else {
+            continue;
+        };
         let Some(edits) = edits_between(alloc, word, row.name)? else {
             continue;
         };

@@ -1,7 +1,7 @@
 //! The commands `codes` and `explain`: list the codes of findings, and explain one.
 use clap::ArgMatches;
 use finding_codes::code::Code;
-use finding_codes::table::rows;
+use finding_codes::table::{COUNT, row_at};
 use finding_texts::{example_of, summary_of, text_of};
 use std::alloc::{AllocError, Global};
 use std::io;
@@ -96,8 +96,10 @@ fn push_explanation(text: &mut String, code: Code) -> Result<(), AllocError> {
 /// Writes the list of codes.
 fn list(rt: &HostRuntime) -> Result<(), RunError> {
     let mut lines = Lines::new(rt);
-    for row in rows() {
-        push_code(&mut lines.text, row.code)?;
+    for number in 0..COUNT {
+        if let Some(row) = row_at(number) {
+            push_code(&mut lines.text, row.code)?;
+        }
     }
     lines.flush()?;
     Ok(())
@@ -115,7 +117,10 @@ fn explain(rt: &HostRuntime, code: Code) -> Result<(), RunError> {
 fn similar(alloc: Global, word: &str) -> Result<Option<Code>, AllocError> {
     let mut similar = None;
     let mut least = MOST_CHANGES;
-    for row in rows() {
+    for number in 0..COUNT {
+        let Some(row) = row_at(number) else {
+            continue;
+        };
         let changes = levenshtein(alloc, row.name, word)?;
         if changes <= least && changes < word.len() {
             similar = Some(row.code);

@@ -1,7 +1,7 @@
 //! Findings in formats for other programs.
 use crate::finding_copy::copied;
 use clap::ArgMatches;
-use finding_codes::table::rows;
+use finding_codes::table::{COUNT, row_at};
 use finding_formats::sarif::{Rule, Tool};
 use finding_formats::{Finding, checkstyle, github, json, sarif};
 use finding_texts::{summary_of, text_of};
@@ -64,7 +64,10 @@ fn push_sarif_start(out: &mut Vec<u8>) -> Result<(), AllocError> {
     };
     sarif::push_start(out, &tool)?;
     let mut is_first = true;
-    for row in rows() {
+    for number in 0..COUNT {
+        let Some(row) = row_at(number) else {
+            continue;
+        };
         let rule = Rule {
             code: row.code,
             severity: row.severity,

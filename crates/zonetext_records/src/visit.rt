@@ -3,7 +3,7 @@
 use dns_wire::DisplayWithDot;
 use finding_codes::code::{Code, Severity};
 use finding_codes::policy::Policy;
-use finding_codes::table::rows;
+use finding_codes::table::{COUNT, row_at};
 use rdata_values::{Class, RecordType};
 use std::alloc::{AllocError, Global};
 use zone_contents::scope::is_apex;
@@ -177,7 +177,10 @@ impl<T: EntryVisitor + Drop> Visit for ReportingVisitor<'_, T> {
 /// read.
 fn unsaid_codes(alloc: Global, is_one_class: bool) -> Result<Vec<Code>, AllocError> {
     let mut codes = Vec::new(alloc);
-    for row in rows() {
+    for number in 0..COUNT {
+        let Some(row) = row_at(number) else {
+            continue;
+        };
         let is_slip = row.severity == Severity::Warning && row.code != Code::NoOrigin;
         if is_slip || (row.code == Code::OtherClass && !is_one_class) {
             codes.push(row.code)?;
