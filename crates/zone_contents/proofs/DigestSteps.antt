@@ -93,6 +93,10 @@ chosen_all : (P : ℕ → Type 0) (b : Bool) (x : ℕ) → (b ≡ true → P x) 
 chosen_all P true x h = All-cons P x [] (h refl) (All-nil P)
 chosen_all P false x h = All-nil P
 
+filled : {X Y : Type 0} (f : X → Y) (xs : List X) (x : X) (ys : List Y) → map f (xs ++ x ∷ []) ++ ys ≡ [] → ⊥
+filled f [] x ys h = cc
+filled f (w ∷ xs) x ys h = cc
+
 chosen_by : (z : ZoneValue) (place : ℕ) (a d : Bool) → map (data_at z) (if a && not d then place ∷ [] else []) ≡ map data_of (if d then [] else cond a (contents_at z place ∷ []) [])
 chosen_by z place true true = refl
 chosen_by z place true false = refl
@@ -138,6 +142,13 @@ module _ (rtype : RecordType) (apex : List (List ℕ)) (z : ZoneValue) where
             ∙ sym (append_assoc (map (data_at z) places) (map (data_at z) more) rest)
             ∙ ap (λ l. l ++ rest) (sym (map-append (data_at z) places more));
       }
+
+  pub some_chosen : AreSortedRecords z.apex z.records → (place : ℕ) (places : List ℕ) → place < length z.records → is_chosen rtype apex z place ≡ true → Collects rtype apex z place places
+      → zone_apex_data rtype apex z ≢ []
+  some_chosen sorted place places lt h c e =
+      let rest = apex_data rtype apex (rest_from z (suc place)) in
+      filled (data_at z) places place rest
+      (ap (λ b. map (data_at z) (places ++ (if b then place ∷ [] else [])) ++ rest) (sym h) ∙ sym (collects_more sorted place (suc place) places lt refl c).are ∙ e)
 
   pub collects_all : (place : ℕ) (places : List ℕ) → length z.records ≤ place → Collects rtype apex z place places → AreApexPlaces rtype apex z places
   collects_all place places low c = record {

@@ -1,5 +1,5 @@
 -- The check of all ZONEMD records of a zone (RFC 8976 section 4).
-use Rattle.std.specs.Prelude.{◌≡◌, ℕ, Bool, ◌==◌, ◌&&◌, Some, List, [], ◌∷◌, map, filter, count_by, slice_index}
+use Rattle.std.specs.Prelude.{◌≡◌, ◌≢◌, ℕ, Bool, ◌==◌, ◌&&◌, Some, List, [], ◌∷◌, map, filter, count_by, slice_index}
 use Rattle.rdata_values.specs.Rtype as Rtype
 use Rattle.rdata_values.specs.declared.types.RecordType.{RecordType}
 use Rattle.zone_record.specs.Records.{data_of}
@@ -47,7 +47,7 @@ HasSerial apex records serial = (soa : TypeData) × (apex_data Rtype.soa apex re
 abbrev pub IsChecked : {N O : Type 0} → List (List ℕ) → List (Record N O) → List Verdict → Type 0
 IsChecked apex records verdicts = (serial : ℕ) × HasSerial apex records serial × HaveVerdicts serial (hashed_octets apex records) (apex_data Rtype.zonemd apex records) (apex_data Rtype.zonemd apex records) verdicts
 
--- memory was out, or the apex has no SOA or more than one
+-- memory was out, which an SOA at the apex takes first, or the apex has no SOA or more than one
 abbrev pub IsCheckError : {N O : Type 0} → List (List ℕ) → List (Record N O) → CheckError → Type 0
-IsCheckError apex records ShortBuf = Unit {0}
+IsCheckError apex records ShortBuf = apex_data Rtype.soa apex records ≢ []
 IsCheckError apex records NoSingleSoa = (serial : ℕ) → HasSerial apex records serial → ⊥

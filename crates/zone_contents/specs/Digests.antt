@@ -1,5 +1,5 @@
 -- The digest of a zone in a store, and the records of a type at its apex.
-use Rattle.std.specs.Prelude.{◌≡◌, ◌<◌, ◌&&◌, ℕ, not, Bool, All, MatchOption, Option, if◌then◌else◌, List, [], ◌∷◌, ◌++◌, length, map}
+use Rattle.std.specs.Prelude.{◌≡◌, ◌<◌, ◌&&◌, ℕ, not, Bool, true, false, All, MatchOption, Option, if◌then◌else◌, List, [], ◌∷◌, ◌++◌, length, map}
 use Rattle.std.specs.Int.{to_be_bytes, w32}
 use Rattle.std.specs.List.{dedup}
 use Rattle.rdata_values.specs.Rtype as Rtype
@@ -12,7 +12,7 @@ use Rattle.zone_contents.specs.Contents.{contents, ZoneValue}
 use Rattle.zone_contents.specs.Checks.{alike_count, apex_data, is_at_apex, HasSerial, HasVerdict, IsCheckError, IsChecked}
 use Rattle.zone_contents.specs.Computed.{AppendsDigest, IsRightData, hash_code}
 use Rattle.zone_store.specs.Duplicates.{is_duplicate_at}
-use Rattle.zone_contents.specs.Hashed.{hashed_octets}
+use Rattle.zone_contents.specs.Hashed.{hashed_octets, is_hashed}
 use Rattle.zone_contents.specs.Lookups.{same_key, AreCanonicalOf}
 use Rattle.zone_contents.specs.Verdicts.{IsDigest}
 use Rattle.zone_contents.specs.declared.algorithm.HashAlgorithm.{HashAlgorithm}
@@ -35,6 +35,10 @@ zone_octets apex z = hashed_octets apex (distinct_records z)
 -- the record at an index, unless it is a duplicate of the one before it
 abbrev pub first_at : ZoneValue → ℕ → List (Record (Unit {0}) (Unit {0}))
 first_at z place = if is_duplicate_at z.records place then [] else contents_at z place ∷ []
+
+-- a record is hashed: its form takes memory
+abbrev pub HasHashed : List (List ℕ) → ZoneValue → Type 0
+HasHashed apex z = (place : ℕ) × (place < length z.records) × (is_duplicate_at z.records place ≡ false) × (is_hashed apex (contents_at z place) ≡ true)
 
 -- the octets that are hashed of it are appended
 abbrev pub AddsHashed : List (List ℕ) → ZoneValue → ℕ → List ℕ → List ℕ → Type 0

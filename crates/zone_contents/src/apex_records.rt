@@ -1,8 +1,9 @@
 //! The records of a type at the apex of a zone.
-ghost use Rattle.std.specs.Prelude.{◌≡◌, ◌<◌, ◌≤◌, IfOk, OnOk, length};
+ghost use Rattle.std.specs.Prelude.{◌≡◌, ◌≢◌, ◌<◌, ◌≤◌, IfOk, OnErr, OnOk, [], length, true};
 ghost use Rattle.dns_wire.specs.Wire.{IsName};
+ghost use Rattle.rdata_values.specs.Rtype as Rtype;
 ghost use Rattle.zone_contents.specs.Contents.{contents, AreSortedRecords};
-ghost use Rattle.zone_contents.specs.Digests.{data_at, is_chosen, AddsChosen, AreApexPlaces, FindsSerial};
+ghost use Rattle.zone_contents.specs.Digests.{data_at, is_chosen, zone_apex_data, AddsChosen, AreApexPlaces, FindsSerial};
 ghost use Rattle.zone_rules.specs.Searches.{AreOwnedFrom};
 
 use crate::scope::is_apex;
@@ -48,7 +49,8 @@ fn push_at_apex<Apex: AsOctets, A: Allocator, B: Allocator>(
     out: &mut Vec<usize, B>,
 ) -> Result<(), AllocError>
     requires { place < length zone.now.records }
-    ensures { OnOk result (AddsChosen rtype apex.now zone.now place out.old.items out.new.items) }
+    ensures ok { OnOk result (AddsChosen rtype apex.now zone.now place out.old.items out.new.items) }
+    ensures err { OnErr result (is_chosen rtype apex.now zone.now place ≡ true) }
 {
     if is_at_apex(apex, zone, place, rtype, owner) {
         out.push(place)?;
@@ -70,14 +72,15 @@ impl<A: Allocator> StoredZone<A> {
 }
 
 /// Returns the indexes of the records of a type at the apex of a zone, without duplicates. Fails
-/// without memory.
+/// without memory, and only if there is such a record.
 pub fn apex_places<Apex: AsOctets, A: Allocator, B: Allocator>(
     alloc: B,
     apex: &Name<Apex>,
     zone: &StoredZone<A>,
     rtype: RecordType,
 ) -> Result<Vec<usize, B>, AllocError>
-    ensures { IfOk result (λ v. AreApexPlaces rtype apex.now zone.now v.items) }
+    ensures ok { IfOk result (λ v. AreApexPlaces rtype apex.now zone.now v.items) }
+    ensures err { OnErr result (zone_apex_data rtype apex.now zone.now ≢ []) }
 {
     let mut places = Vec::new(alloc);
     let mut owner = OwnerBuffer::new();
@@ -106,7 +109,8 @@ pub(crate) fn apex_serial<Apex: AsOctets, A: Allocator, B: Allocator>(
     apex: &Name<Apex>,
     zone: &StoredZone<A>,
 ) -> Result<Option<u32>, AllocError>
-    ensures { IfOk result (FindsSerial apex.now zone.now) }
+    ensures ok { IfOk result (FindsSerial apex.now zone.now) }
+    ensures err { OnErr result (zone_apex_data Rtype.soa apex.now zone.now ≢ []) }
 {
     let places = apex_places(alloc, apex, zone, RecordType::SOA)?;
     match places.as_slice() {

@@ -1,8 +1,8 @@
 //! Checks the digests of a zone, and computes the right ones.
-ghost use Rattle.std.specs.Prelude.{◌≡◌, ◌↔◌, ◌++◌, IfOk, IfErr, IsTrue, OnOk};
+ghost use Rattle.std.specs.Prelude.{◌≡◌, ◌↔◌, ◌++◌, IfOk, IfErr, IsTrue, OnErr, OnOk};
 ghost use Rattle.rdata_values.specs.Rtype as Rtype;
-ghost use Rattle.zone_contents.specs.Digests.{simple_fields, zone_alike_count, zone_octets, AddsZoneDigest, AreApexPlaces, HasZoneDigest, HasZoneVerdict, IsDigestData, IsRightForZone, IsZoneCheckError, IsZoneChecked};
-ghost use Rattle.zone_contents.specs.Verdicts.{IsVerdict};
+ghost use Rattle.zone_contents.specs.Digests.{simple_fields, zone_alike_count, zone_octets, AddsZoneDigest, AreApexPlaces, HasHashed, HasZoneDigest, HasZoneVerdict, IsDigestData, IsRightForZone, IsZoneCheckError, IsZoneChecked};
+ghost use Rattle.zone_contents.specs.Verdicts.{IsUsable, IsVerdict};
 
 use crate::algorithm::HashAlgorithm;
 use crate::apex_records::{apex_places, apex_serial};
@@ -45,7 +45,8 @@ fn is_digest<Apex: AsOctets, A: Allocator, B: Allocator>(
     zone: &StoredZone<A>,
     one: &Zonemd<'_>,
 ) -> Result<bool, ShortBuf>
-    ensures { IfOk result (λ r. IsTrue r ↔ HasZoneDigest apex.now zone.now one.now) }
+    ensures ok { IfOk result (λ r. IsTrue r ↔ HasZoneDigest apex.now zone.now one.now) }
+    ensures err { OnErr result (HasHashed apex.now zone.now) }
 {
     match one.hash {
         1 => {
@@ -62,7 +63,8 @@ fn is_digest<Apex: AsOctets, A: Allocator, B: Allocator>(
 
 /// Checks whether a ZONEMD record has the digest of its zone. The record is at the zone's apex.
 /// `serial` is that of the zone's SOA, and `count` is the number of its ZONEMD records with this
-/// scheme and hash algorithm. Fails if memory for one record is out.
+/// scheme and hash algorithm. Fails if memory for one record is out, and only if the digest is needed
+/// and a record is hashed.
 pub fn check_zonemd<Apex: AsOctets, A: Allocator, B: Allocator>(
     alloc: B,
     apex: &Name<Apex>,
@@ -71,7 +73,8 @@ pub fn check_zonemd<Apex: AsOctets, A: Allocator, B: Allocator>(
     count: usize,
     one: &Zonemd<'_>,
 ) -> Result<Verdict, ShortBuf>
-    ensures { IfOk result (IsVerdict serial (zone_octets apex.now zone.now) count one.now) }
+    ensures ok { IfOk result (IsVerdict serial (zone_octets apex.now zone.now) count one.now) }
+    ensures err { OnErr result (IsUsable serial count one.now × HasHashed apex.now zone.now) }
 {
     if one.serial != serial {
         return Ok(Verdict::OtherSerial);

@@ -8,4 +8,4 @@ pub returns-in-Ok-make_data-clause-ok : goal.returns-in-Ok-make_data-clause-ok
 returns-in-Ok-make_data-clause-ok g c =
     let apex = c.args.apex.now in
     let z = c.args.zone.now in
-    right_made apex (distinct_records z) c.in-Some.serial (hash_code c.args.algorithm) _ _ (subst (FindsSerial apex z) c.in-Some.is c.in-Ok.ensures) refl c.in-Ok-make_data.ensures
+    right_made apex (distinct_records z) c.in-Some.serial (hash_code c.args.algorithm) _ _ (subst (FindsSerial apex z) c.in-Some.is c.in-Ok.ensures.ok) refl c.in-Ok-make_data.ensures

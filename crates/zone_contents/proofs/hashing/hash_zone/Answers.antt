@@ -14,14 +14,14 @@ loop-place-preserved g c =
     let place = c.loop-place.place in
     let w = c.loop-place.invariant in
     let more = hashed_octets apex (first_at z place) in
-    let form = c.as_slice.ensures.value ∙ c.in_ok-append_hashed.ensures ∙ ap (λ l. l ++ more) c.clear.ensures.items in (
+    let form = c.as_slice.ensures.value ∙ c.in_ok-append_hashed.ensures.ok ∙ ap (λ l. l ++ more) c.clear.ensures.items in (
       w.0 ++ more,
       subst (λ m. g.D.Digest.holds c.update.new.self (w.0 ++ m)) form (c.update.ensures w.0 w.1),
       hashing_more apex z c.count-place-end.ensures.sorted place _ w.0 (omega (arith, c.loop-place-test.true, c.count-place-end.ensures.count)) (omega arith) w.2,
     )
 
-pub returns : goal.returns
-returns g c =
+pub returns-clause-ok : goal.returns-clause-ok
+returns-clause-ok g c =
     let apex = c.args.apex.now in
     let z = c.args.zone.now in
     let w = c.loop-place.invariant in
