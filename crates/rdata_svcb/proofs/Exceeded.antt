@@ -1,10 +1,9 @@
 -- Parameters of which a beginning exceeds the room exceed it.
-use Rattle.std.proofs.Common.{ℕ, ◌≡◌, ◌≢◌, ◌<◌, ◌≤◌, ◌+◌, ◌⊎◌, false, List, [], ◌∷◌, ◌++◌, length, refl, sym, subst, ap, ◌∙◌, arith, inl, inr, append-nil, append_assoc}
+use Rattle.std.proofs.Common.{ℕ, ◌≡◌, ◌≢◌, ◌<◌, ◌≤◌, ◌+◌, ◌⊎◌, false, List, [], ◌∷◌, ◌++◌, length, refl, sym, subst, ap, ◌∙◌, arith, inl, inr, append-nil}
 use Rattle.std.proofs.lemmas.Grind.{flat_map-append}
 use Rattle.std.proofs.lemmas.List.{length-append}
 use Rattle.std.specs.List.{flat_map, AllPairs, AllZip}
 use Rattle.dns_codec.specs.Base.{base64}
-use Rattle.dns_octets.specs.Appending.{ExceedsRoom}
 use Rattle.dns_octets.specs.Room.{Room}
 use Rattle.dns_lexer.specs.EntryTokens.{TokenSeen}
 use Rattle.rdata_tokens.specs.Reading.{DigitsState}
@@ -17,7 +16,7 @@ use Rattle.rdata_svcb.specs.Items.{BeginsApart}
 use Rattle.rdata_svcb.specs.Keys.{NamesKey}
 use Rattle.rdata_svcb.specs.ListItems.{BeginsStrings, ContinuesToItem}
 use Rattle.rdata_svcb.specs.Params.{param_head, params_wire}
-use Rattle.rdata_svcb.specs.ParamRefusals.{ExceedsNew, ExceedsParams, ExceedsValue, FirstNamesKey}
+use Rattle.rdata_svcb.specs.ParamRefusals.{ExceedsNew, ExceedsParams, ExceedsValue}
 use Rattle.rdata_svcb.specs.ParamSteps.{BeginsWithOneParam, MayBeginParam}
 use Rattle.rdata_svcb.specs.ParamTokens.{FindsParam, IsClosedWord, IsOpenWord, IsValueAfterWord, ReadsEachParam, ReadsParam, SpellsFirstParam, SpellsFirstParams, SpellsParams, SplitsWord}
 use Rattle.rdata_svcb.specs.ParamValues.{BeginsValues, SpellsIpv4, SpellsIpv6, SpellsStrings, SpellsValue, SpellsValues}
@@ -95,7 +94,7 @@ value_exceeded room Octets text old octets h s = omega (arith, h.2, fewer_spelle
 
 module _ (t : TokenSeen) (tokens : List TokenSeen) (key : ℕ) (kind : ValueKind) (value : List ℕ) (at after : List TokenSeen) (finds : FindsParam (t ∷ tokens) key kind value at after) where
   -- a parameter that tokens spell has the key and the value that are found
-  found_first : (q : ℕ × List ℕ) (mid : List TokenSeen) → SpellsFirstParam (t ∷ tokens) q mid → MayBeginParam mid → (q.0 ≡ key) × SpellsValue kind value q.1 × (mid ≡ after)
+  pub found_first : (q : ℕ × List ℕ) (mid : List TokenSeen) → SpellsFirstParam (t ∷ tokens) q mid → MayBeginParam mid → (q.0 ≡ key) × SpellsValue kind value q.1 × (mid ≡ after)
   found_first q mid f apart = by finds.1.2
     where
       of : f.name ≡ finds.1.0 → f.value ≡ value → mid ≡ after → (q.0 ≡ key) × SpellsValue kind value q.1 × (mid ≡ after)
@@ -120,12 +119,12 @@ read_is_first (t ∷ tokens) p after r q mid f apart =
     let octets : q.1 ≡ p.1 = value_once r.0 r.1 q.1 p.1 found.1 r.4 in
     (ap (λ key. (key, q.1)) found.0 ∙ ap (λ v. (p.0, v)) octets, found.2)
 
-some_read : (tokens : List TokenSeen) (p : ℕ × List ℕ) (after : List TokenSeen) → ReadsParam tokens p after → tokens ≢ []
+pub some_read : (tokens : List TokenSeen) (p : ℕ × List ℕ) (after : List TokenSeen) → ReadsParam tokens p after → tokens ≢ []
 some_read [] p after r e = r.3
 some_read (t ∷ tokens) p after r e = absurd cc
 
 -- the parameters of all tokens begin with those that are read
-reads_go_on : (tokens : List TokenSeen) (params all : List (ℕ × List ℕ)) (rest : List TokenSeen) → ReadsEachParam tokens params rest → SpellsFirstParams tokens all []
+pub reads_go_on : (tokens : List TokenSeen) (params all : List (ℕ × List ℕ)) (rest : List TokenSeen) → ReadsEachParam tokens params rest → SpellsFirstParams tokens all []
     → (more : List (ℕ × List ℕ)) × (all ≡ params ++ more) × SpellsFirstParams rest more []
 reads_go_on tokens [] all rest r s = (all, refl, subst (λ ts. SpellsFirstParams ts all []) r s)
 reads_go_on tokens (p ∷ params) all rest r s =

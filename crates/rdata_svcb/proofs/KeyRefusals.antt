@@ -1,5 +1,5 @@
 -- Names of keys that spell no keys, and keys that don't fit.
-use Rattle.std.proofs.Common.{ℕ, zero, suc, ◌≡◌, ◌≢◌, ◌<◌, ◌≤◌, ◌+◌, ◌-◌, ◌||◌, ◌==◌, Bool, true, false, cond, List, [], ◌∷◌, ◌++◌, length, get_or, decimal, refl, sym, ap, ◌∙◌, arith, Option, Some, None, append_assoc, append-nil}
+use Rattle.std.proofs.Common.{ℕ, zero, suc, ◌≡◌, ◌≢◌, ◌<◌, ◌≤◌, ◌+◌, ◌-◌, ◌||◌, ◌==◌, Bool, true, false, cond, List, [], ◌∷◌, ◌++◌, length, get_or, decimal, refl, sym, ap, subst, ◌∙◌, arith, Option, Some, None, append_assoc, append-nil}
 use Rattle.std.specs.Prelude.{codes, MatchOption}
 use Rattle.std.specs.Int.{w16, to_be_bytes}
 use Rattle.std.specs.List.{AllPairs}
@@ -51,16 +51,19 @@ get_front [] ys k d l = absurd (omega (arith, l))
 get_front (x ∷ xs) ys zero d l = refl
 get_front (x ∷ xs) ys (suc k) d l = get_front xs ys k d (omega (arith, l))
 
+-- a key that comes after keys which differ is not one of them
+pub new_key : (keys more : List ℕ) (key : ℕ) → AllPairs (λ a b. a ≢ b) (keys ++ key ∷ more) → has keys key ≡ true → ⊥
+new_key keys more key once there =
+    let at = has_place keys key there in
+    once at.0 (length keys) 0 at.1 (omega (arith, length-append keys (key ∷ more)))
+    (get_front keys (key ∷ more) at.0 0 at.1 ∙ at.2 ∙ sym (ap (λ i. get_or (keys ++ key ∷ more) i 0) (omega arith) ∙ get_or-append-add keys (key ∷ more) 0 0))
+
 pub key_repeated : (text rest before set : List ℕ) (behind : Option (List ℕ)) (code : ℕ) (spelled : List ℕ) → TakesKeys text (Some rest) set → IsWithout 44 before → IsSplit rest before behind
     → NamesAKey before code → code < 65536 → has set code ≡ true → SpellsApart NamesAKey text spelled → AllPairs (λ a b. a ≢ b) spelled → ⊥
 key_repeated text rest before set behind code spelled h without split named small there s once =
     let on = apart_goes_on NamesAKey text rest before h.keys spelled behind a_key_once h.taken without split s in
-    let at = has_place h.keys code (sym (h.same code small) ∙ there) in
-    let same : on.0 ≡ code = a_key_once before on.0 code on.3 named in
-    let size = ap length on.2 ∙ length-append h.keys (on.0 ∷ on.1) in
-    once at.0 (length h.keys) 0 at.1 (omega (arith, size))
-    (ap (λ xs. get_or xs at.0 0) on.2 ∙ get_front h.keys (on.0 ∷ on.1) at.0 0 at.1 ∙ at.2 ∙ sym same
-    ∙ sym (ap (λ xs. get_or xs (length h.keys) 0) on.2 ∙ ap (λ i. get_or (h.keys ++ on.0 ∷ on.1) i 0) (omega arith) ∙ get_or-append-add h.keys (on.0 ∷ on.1) 0 0))
+    let same : code ≡ on.0 = a_key_once before code on.0 named on.3 in
+    new_key h.keys on.1 on.0 (subst (AllPairs (λ a b. a ≢ b)) on.2 once) (ap (has h.keys) (sym same) ∙ sym (h.same code small) ∙ there)
 
 keys_split : (keys : List ℕ) (w m n : ℕ) → keys_from keys w (m + n) ≡ keys_from keys w m ++ keys_from keys (w + m) n
 keys_split keys w zero n = ap (keys_from keys w) (omega arith) ∙ ap (λ v. keys_from keys v n) (omega arith) ∙ ap (λ xs. xs ++ keys_from keys (w + zero) n) (sym (keys_zero keys w))

@@ -30,3 +30,8 @@ pub mod ShownKeys
 pub mod ShownValues
 pub mod ShownBack
 pub mod ShownWords
+pub mod Beginnings
+pub mod ListReasons
+pub mod KeyReasons
+pub mod ValueReasons
+pub mod ParamReasons

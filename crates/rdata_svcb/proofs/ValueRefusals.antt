@@ -13,7 +13,7 @@ use Rattle.rdata_svcb.specs.ParamRefusals.{RefusesValue}
 digits_refused_by : (room : Room) (text old : List ℕ) (why : ErrorKind) → RefusesToken Base64 room text old why → RefusesValue room Digits text old why
 digits_refused_by room text old why h = elim h.why [
   | inl e ↦ inl (e, h.exceeds e)
-  | inr (inl u) ↦ inr (inl u, h.none (λ e. (let j : IncompleteBase64 ≡ ShortBuf = sym u.0 ∙ e in absurd cc)))
+  | inr (inl u) ↦ (let none = h.none (λ e. (let j : IncompleteBase64 ≡ ShortBuf = sym u.0 ∙ e in absurd cc)) in inr (inl (u.0, u.1, none), none))
   | inr (inr (inl i, x)) ↦ inr (inr (inl i, x), h.none (λ e. (let j : IllegalBase64 ≡ ShortBuf = sym i.0 ∙ e in absurd cc)))
   | inr (inr (inr t, x)) ↦ inr (inr (inr t, x), h.none (λ e. (let j : TrailingBase64 ≡ ShortBuf = sym t.0 ∙ e in absurd cc)))
 ]

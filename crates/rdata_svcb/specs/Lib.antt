@@ -11,6 +11,7 @@ pub mod ParamValues
 pub mod ParamTokens
 pub mod ParamSteps
 pub mod ParamRefusals
+pub mod OneReason
 pub mod ListItems
 pub mod ShownParams
 pub mod ParamsBack

@@ -9,7 +9,7 @@ use Rattle.rdata_values.specs.declared.error.ErrorKind.{ErrorKind}
 use Rattle.rdata_values.specs.declared.error.ErrorKind.TheVariants.{ShortBuf, BadEscape, ExpectedIpv4, ExpectedIpv6, IllegalBase64, TrailingBase64, IncompleteBase64, QuotedParam, GluedParam, UnknownKey, UnexpectedValue, RepeatedKey, LongValue, RepeatedParam}
 use Rattle.rdata_fields.specs.Words.{NumberReason}
 use Rattle.rdata_tokens.specs.Reading.{PaddedBefore}
-use Rattle.rdata_tokens.specs.Spelled.{BeginsWithDigits}
+use Rattle.rdata_tokens.specs.Spelled.{BeginsWithDigits, SpellsDigits}
 use Rattle.rdata_tokens.specs.Spelling.{BeginsWithOctets, SpellsToBadEscape}
 use Rattle.rdata_tokens.specs.Tokens.{DigitsContinue}
 use Rattle.rdata_tokens.specs.declared.kind.DigitsKind.TheVariants.{Base64}
@@ -39,10 +39,10 @@ NextKeyReason keys item e = ((e ≡ UnknownKey) × ((key : ℕ) → NamesAKey it
 abbrev pub KeysReason : List ℕ → ErrorKind → Type 0
 KeysReason text e = (keys item : List ℕ) × BeginsApart NamesAKey text keys item × AllPairs (λ a b. a ≢ b) keys × NextKeyReason keys item e
 
--- of one word in base 64: it is incomplete, or no text of octets begins so, with an error after padding or without any
+-- of one word in base 64: it spells no octets, and a longer one would; or no text of octets begins so, with an error after padding or without any
 abbrev pub DigitsReason : List ℕ → ErrorKind → Type 0
 DigitsReason text e =
-    ((e ≡ IncompleteBase64) × DigitsContinue Base64 text)
+    ((e ≡ IncompleteBase64) × DigitsContinue Base64 text × ((octets : List ℕ) → SpellsDigits base64 text octets → ⊥))
     ⊎ ((((e ≡ IllegalBase64) × (PaddedBefore base64 text → ⊥)) ⊎ ((e ≡ TrailingBase64) × PaddedBefore base64 text)) × (DigitsContinue Base64 text → ⊥))
 
 -- the first item that spells no value, after items that spell some
