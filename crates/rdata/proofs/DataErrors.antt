@@ -1,5 +1,5 @@
 -- Tokens that are rejected as RDATA have one error.
-use Rattle.std.proofs.Common.{ℕ, Option, Some, None, ◌≡◌, ◌≢◌, ◌-◌, ◌+◌, List, [], ◌∷◌, ◌++◌, length, refl, sym, ap, subst, ◌∙◌, inl, inr}
+use Rattle.std.proofs.Common.{ℕ, Option, Some, None, ◌≡◌, ◌≢◌, ◌-◌, ◌+◌, List, [], ◌++◌, length, sym, ap, subst, ◌∙◌, inl, inr}
 use Rattle.std.specs.Prelude.{◌⊎◌, Ok, Err}
 use Rattle.dns_octets.specs.Room.{Room}
 use Rattle.dns_octets.specs.Appending.{Gains}
@@ -17,12 +17,11 @@ use Rattle.rdata_values.specs.declared.types.RecordType.{RecordType}
 use Rattle.rdata.specs.ByType.{HasShape, IsShapeOf, ReadsType, RefusesData, RefusesGeneric, SpellsGenericData, SpellsTypeData, shape_of_code}
 use Rattle.rdata.specs.Data.{HasLength, HasWrongHash, IsDataOf, IsWrongLength, ReadsData, RefusesAfterFields, SpellsData, wrong_length}
 use Rattle.rdata.specs.Generic.{generic_form}
-use Rattle.rdata.specs.OneError.{HasOneError, HaveOneDataError, HasOtherTail}
+use Rattle.rdata.specs.OneError.{HasOneError, HaveOneDataError}
 use Rattle.rdata.specs.RestKinds.{IsRestPart, ParsesTailParts, rest_form}
 use Rattle.rdata.specs.Rests.{RestForm, RefusesAs}
 use Rattle.rdata.specs.Types.{TypeShape}
 use Rattle.rdata.specs.declared.rest.Rest.{Rest}
-use Rattle.rdata.specs.declared.rest.Rest.TheVariants.{Params}
 use Rattle.rdata.specs.declared.shape.LengthRule.{LengthRule}
 use Rattle.rdata.specs.declared.shape.Shape.{Shape}
 use Rattle.rdata.proofs.FormErrors.{generic_rejected, rest_part_once, rest_rejected}
@@ -58,12 +57,12 @@ module _ (origin : Option (List (List ℕ))) (shape : Shape) (end : ℕ) (tokens
       ((r ≡ error_in_field (length fields - 1) (error_at (last_place fields tokens end) (wrong_length shape.length octets))) × (left ≡ behind) × (new ≡ middle) × HasWrongHash shape.length octets)
       ⊎ ((HasWrongHash shape.length octets → ⊥) × WhyTail room behind octets middle r left new)
 
-  module _ (other : shape.rest ≢ Params) (one two : Room) (behind left last : List TokenSeen) (octets middle center new after : List ℕ) (a b : RecordError) (fits : a.kind ≢ ShortBuf) (fit : b.kind ≢ ShortBuf) where
+  module _ (one two : Room) (behind left last : List TokenSeen) (octets middle center new after : List ℕ) (a b : RecordError) (fits : a.kind ≢ ShortBuf) (fit : b.kind ≢ ShortBuf) where
     parts_same : ParsesTailParts origin one shape.rest (length fields) end behind middle (Err a) left new → ParsesTailParts origin two shape.rest (length fields) end behind center (Err b) last after → (a ≡ b) × (left ≡ last)
     parts_same (e, part, is, h, of) (d, index, as_, k, own) =
         let why = reason_of one form behind left middle e.kind h.why (λ short. fits (in_field_kind a e _ is ∙ short)) in
         let reason = reason_of two form behind last center d.kind k.why (λ short. fit (in_field_kind b d _ as_ ∙ short)) in
-        let same = rest_rejected origin shape.rest other behind left last e.kind d.kind why.0 reason.0 in
+        let same = rest_rejected origin shape.rest behind left last e.kind d.kind why.0 reason.0 in
         let parts = rest_part_once origin shape.rest behind last d.kind part index reason.0 (subst (λ l. IsRestPart origin shape.rest behind l part) same.0 of) own in
         let error : e ≡ d = h.at ∙ (λ i. error_at (next_place (same.0 i) end) (same.1 i)) ∙ sym k.at in
         (is ∙ (λ i. error_in_field (length fields + parts i) (error i)) ∙ sym as_, same.0)
@@ -88,7 +87,7 @@ module _ (origin : Option (List (List ℕ))) (shape : Shape) (end : ℕ) (tokens
     after_same (inr h) (inl k) = absurd (h.0 k.3)
     after_same (inr h) (inr k) = tail_same h.1 k.1
 
-  module _ (other : shape.rest ≢ Params) (one two : Room) (left last : List TokenSeen) (old before new after : List ℕ) (a b : RecordError) (fits : a.kind ≢ ShortBuf) (fit : b.kind ≢ ShortBuf) where
+  module _ (one two : Room) (left last : List TokenSeen) (old before new after : List ℕ) (a b : RecordError) (fits : a.kind ≢ ShortBuf) (fit : b.kind ≢ ShortBuf) where
     fields_same : ParsesAllFields origin one fields end tokens old (Err a) left new → ParsesAllFields origin two fields end tokens before (Err b) last after → (a ≡ b) × (left ≡ last)
     fields_same h k =
         let same = fields_refused_once origin fields one two tokens left last old before new after h.0 k.0 a.kind b.kind h.1 k.1 fits fit in
@@ -104,7 +103,7 @@ module _ (origin : Option (List (List ℕ))) (shape : Shape) (end : ℕ) (tokens
         let same = fields_front origin fields x.taken h.behind y.taken k.behind x.octets y.octets x.spelled y.spelled (sym x.whole ∙ y.whole) in
         let why : WhyAfter one h.behind x.octets h.middle a left new = h.why in
         let moved : WhyAfter one k.behind y.octets h.middle a left new = subst (λ o. WhyAfter one k.behind o h.middle a left new) same.2 (subst (λ ts. WhyAfter one ts x.octets h.middle a left new) same.1 why) in
-        after_same other one two k.behind left last y.octets h.middle k.middle new after a b fits fit moved k.why
+        after_same one two k.behind left last y.octets h.middle k.middle new after a b fits fit moved k.why
 
     pub shape_same : ReadsData origin one shape end tokens old (Err a) left new → ReadsData origin two shape end tokens before (Err b) last after → (a ≡ b) × (left ≡ last)
     shape_same h k = by h.0 k.0
@@ -116,9 +115,9 @@ module _ (origin : Option (List (List ℕ))) (shape : Shape) (end : ℕ) (tokens
         by (inr x) (inl y) = absurd (never_fields two b last x.behind before after old x.middle y fit x.taken)
         by (inr x) (inr y) = behind_same x y
 
-pub shape_one_error : (origin : Option (List (List ℕ))) (shape : Shape) → shape.rest ≢ Params → HasOneError (λ room. ReadsData origin room shape)
-shape_one_error origin shape other = record {
-  same = λ room wide end tokens left last old before new after a b h k fits fit. shape_same origin shape end tokens other room wide left last old before new after a b fits fit h k;
+pub shape_one_error : (origin : Option (List (List ℕ))) (shape : Shape) → HasOneError (λ room. ReadsData origin room shape)
+shape_one_error origin shape = record {
+  same = λ room wide end tokens left last old before new after a b h k fits fit. shape_same origin shape end tokens room wide left last old before new after a b fits fit h k;
   apart = λ room wide end tokens left last old before new after done e h k fit. fit (k.1 h.1.0 h.1.1).0;
 }
 
@@ -183,10 +182,6 @@ module _ (origin : Option (List (List ℕ))) (room : Room) (end : ℕ) (tokens :
     h.2,
   )
 
-other_tail : (found : Option TypeShape) (shape : Shape) → HasOtherTail found → HasShape found shape → shape.rest ≢ Params
-other_tail None shape other h = absurd h
-other_tail (Some s) shape other h = λ is. other (sym h.1 ∙ is)
-
 module _ (found : Option TypeShape) (end : ℕ) (tokens : List TokenSeen) where
   generic_same : (one two : Room) (left last : List TokenSeen) (old before new after : List ℕ) (a b : RecordError) → a.kind ≢ ShortBuf → b.kind ≢ ShortBuf
       → RefusesGeneric found one end tokens old a left new → RefusesGeneric found two end tokens before b last after → (a ≡ b) × (left ≡ last)
@@ -201,10 +196,10 @@ module _ (found : Option TypeShape) (end : ℕ) (tokens : List TokenSeen) where
       let g = h.2 in let why = reason_of two generic_form tokens last before b.kind k.why fit in absurd (why.1 g.0 g.1.0)
   generic_same one two left last old before new after a b fits fit (inr h) (inr k) = (h.0 ∙ sym k.0, h.1 ∙ sym k.1)
 
-module _ (origin : Option (List (List ℕ))) (rtype : RecordType) (other : HasOtherTail (shape_of_code rtype)) (one two : Room) (end : ℕ) (tokens left last : List TokenSeen) (old before new after : List ℕ) (a b : RecordError) (fits : a.kind ≢ ShortBuf) (fit : b.kind ≢ ShortBuf) where
+module _ (origin : Option (List (List ℕ))) (rtype : RecordType) (one two : Room) (end : ℕ) (tokens left last : List TokenSeen) (old before new after : List ℕ) (a b : RecordError) (fits : a.kind ≢ ShortBuf) (fit : b.kind ≢ ShortBuf) where
   own_same : (x y : Shape) → HasShape (shape_of_code rtype) x → HasShape (shape_of_code rtype) y → ReadsData origin one x end tokens old (Err a) left new → ReadsData origin two y end tokens before (Err b) last after → (a ≡ b) × (left ≡ last)
   own_same x y s t h k =
-      shape_same origin y end tokens (other_tail (shape_of_code rtype) y other t) one two left last old before new after a b fits fit (same_rejected origin one end tokens old a left new (shape_of_code rtype) x y s t h) k
+      shape_same origin y end tokens one two left last old before new after a b fits fit (same_rejected origin one end tokens old a left new (shape_of_code rtype) x y s t h) k
 
   no_shape : (x : Shape) → shape_of_code rtype ≡ None → HasShape (shape_of_code rtype) x → ⊥
   no_shape x none h = subst (λ f. HasShape f x) none h
@@ -227,12 +222,12 @@ module _ (origin : Option (List (List ℕ))) (rtype : RecordType) (other : HasOt
   data_same (inr (inr (inr h))) (inr (inr (inl k))) = absurd (no_shape h.1.0 k.4 h.1.1)
   data_same (inr (inr (inr h))) (inr (inr (inr k))) = own_same h.1.0 k.1.0 h.1.1 k.1.1 h.1.2 k.1.2
 
-type_same : (origin : Option (List (List ℕ))) (rtype : RecordType) → HasOtherTail (shape_of_code rtype) → (one two : Room) (end : ℕ) (tokens left last : List TokenSeen) (old before new after : List ℕ) (a b : RecordError)
+type_same : (origin : Option (List (List ℕ))) (rtype : RecordType) → (one two : Room) (end : ℕ) (tokens left last : List TokenSeen) (old before new after : List ℕ) (a b : RecordError)
     → ReadsType origin one rtype end tokens old (Err a) left new → ReadsType origin two rtype end tokens before (Err b) last after → a.kind ≢ ShortBuf → b.kind ≢ ShortBuf → (a ≡ b) × (left ≡ last)
-type_same origin rtype other one two end tokens left last old before new after a b h k fits fit =
+type_same origin rtype one two end tokens left last old before new after a b h k fits fit =
     let first = ap (λ (x : RecordError). x.kind) h.1 in
     let second = ap (λ (x : RecordError). x.kind) k.1 in
-    let same = data_same origin rtype other one two end tokens left last old before new after h.0 k.0 (λ short. fits (first ∙ short)) (λ short. fit (second ∙ short)) h.2 k.2 in
+    let same = data_same origin rtype one two end tokens left last old before new after h.0 k.0 (λ short. fits (first ∙ short)) (λ short. fit (second ∙ short)) h.2 k.2 in
     (h.1 ∙ ap (error_of_type rtype) same.0 ∙ sym k.1, same.1)
 
 -- tokens of RDATA are not rejected, if the room suffices
@@ -266,8 +261,8 @@ data_one_error = record {
   rests = rest_rejected;
   parts = rest_part_once;
   shapes = shape_one_error;
-  types = λ origin rtype other. record {
-    same = type_same origin rtype other;
+  types = λ origin rtype. record {
+    same = type_same origin rtype;
     apart = type_apart origin rtype;
   };
 }

@@ -13,10 +13,11 @@ use Rattle.rdata_fields.specs.declared.field.Field.TheVariants.{Number8 as OfNum
 use Rattle.rdata_fields.specs.Parsing.{SpellsEach, SpellsField}
 use Rattle.rdata_fields.proofs.FieldErrors.{one_reason, bad_or_spelled, number_once, reason_or_number, reason_or_string}
 use Rattle.rdata_fields.proofs.Splits.{GoesOn, two_splits}
+use Rattle.rdata_svcb.proofs.ParamReasons.{params_reason_once}
 use Rattle.rdata_tails.specs.LocationParsing.{RefusesTokens}
 use Rattle.rdata_tails.proofs.LocationReasons.{first_refused_once, location_reason_once}
 use Rattle.rdata.specs.Digits.{joined_words, AreUnquoted, SpellsJoined, IsDigitsFault, JoinedReason, digits_form}
-use Rattle.rdata.specs.GatewayKeys.{octet_form, gateway_type_form, AddressReason, gateway_form, key_form, gateway_key_form, IsGatewayPart}
+use Rattle.rdata.specs.GatewayKeys.{octet_form, gateway_type_form, AddressReason, gateway_form, key_form, gateway_key_form}
 use Rattle.rdata.specs.Generic.{IsCount, IsNoCount, WhyNoCount, IsOtherCount, generic_form}
 use Rattle.rdata.specs.HeldForms.{held_form}
 use Rattle.rdata.specs.HostIdentities.{hit_form, PublicKeyTextReason, public_key_form, server_form, servers_form, host_identity_form}
@@ -26,7 +27,7 @@ use Rattle.rdata.specs.OneError.{RejectsOnce, HasOnePart}
 use Rattle.rdata.specs.PrefixLists.{prefix_form}
 use Rattle.rdata.specs.RestKinds.{StringTokensReason, rest_form, strings_form}
 use Rattle.rdata.specs.Rests.{RestForm, AfterSomeTokens, some_form}
-use Rattle.rdata.specs.Texts.{HasQuotes, TextReason, nothing_form, text_form}
+use Rattle.rdata.specs.Texts.{TextReason, nothing_form, text_form}
 use Rattle.rdata.specs.TokenForms.{TokenForm, SpellOctets, ReasonAfter, ThenReason, PartAfter, each_form, then_form}
 use Rattle.rdata.specs.TypeLists.{NameTypes, NamesNone, TypesReason, types_form}
 use Rattle.rdata.specs.declared.rest.Rest.{Rest}
@@ -497,22 +498,22 @@ generic_rejected (mark ∷ tokens) left last a b (inr h) (inr k) = generic_after
 nothing_rejected : RejectsOnce nothing_form
 nothing_rejected tokens left last a b h k = (h.0 ∙ sym k.0, h.2 ∙ sym k.2)
 
-pub rest_rejected : (origin : Option (List (List ℕ))) (r : Rest) → r ≢ Params → RejectsOnce (rest_form origin r)
-rest_rejected origin Nothing other = nothing_rejected
-rest_rejected origin Strings other = some_once (strings_form origin) (strings_once origin) (strings_excluded origin)
-rest_rejected origin MaybeString other = maybe_string_rejected
-rest_rejected origin Hex other = some_once (digits_form InHex) (digits_once InHex) (digits_excluded InHex)
-rest_rejected origin Nsap other = nsap_rejected
-rest_rejected origin Base64 other = some_once (digits_form InBase64) (digits_once InBase64) (digits_excluded InBase64)
-rest_rejected origin Types other = types_rejected
-rest_rejected origin SomeTypes other = some_once types_form types_rejected types_excluded
-rest_rejected origin Text other = text_rejected false
-rest_rejected origin QuotedText other = text_rejected true
-rest_rejected origin OfLocation other = location_rejected
-rest_rejected origin Prefixes other = each_rejected prefix_form prefix_once
-rest_rejected origin GatewayKey other = let keyed = gateway_key_rejected origin in keyed.once
-rest_rejected origin HostIdentity other = let host = host_rejected origin in host.once
-rest_rejected origin Params other = absurd (other refl)
+pub rest_rejected : (origin : Option (List (List ℕ))) (r : Rest) → RejectsOnce (rest_form origin r)
+rest_rejected origin Nothing = nothing_rejected
+rest_rejected origin Strings = some_once (strings_form origin) (strings_once origin) (strings_excluded origin)
+rest_rejected origin MaybeString = maybe_string_rejected
+rest_rejected origin Hex = some_once (digits_form InHex) (digits_once InHex) (digits_excluded InHex)
+rest_rejected origin Nsap = nsap_rejected
+rest_rejected origin Base64 = some_once (digits_form InBase64) (digits_once InBase64) (digits_excluded InBase64)
+rest_rejected origin Types = types_rejected
+rest_rejected origin SomeTypes = some_once types_form types_rejected types_excluded
+rest_rejected origin Text = text_rejected false
+rest_rejected origin QuotedText = text_rejected true
+rest_rejected origin OfLocation = location_rejected
+rest_rejected origin Prefixes = each_rejected prefix_form prefix_once
+rest_rejected origin GatewayKey = let keyed = gateway_key_rejected origin in keyed.once
+rest_rejected origin HostIdentity = let host = host_rejected origin in host.once
+rest_rejected origin Params = params_reason_once
 
 pub rest_part_once : (origin : Option (List (List ℕ))) (r : Rest) → HasOnePart origin r
 rest_part_once origin Nothing tokens left e p q h j k = j ∙ sym k

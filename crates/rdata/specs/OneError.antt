@@ -1,5 +1,5 @@
 -- Tokens that are rejected as RDATA have one error.
-use Rattle.std.specs.Prelude.{ℕ, ⊤, ◌≡◌, ◌≢◌, Option, Some, None, List, Ok, Err}
+use Rattle.std.specs.Prelude.{ℕ, ◌≡◌, ◌≢◌, Option, List, Ok, Err}
 use Rattle.dns_octets.specs.Room.{Room}
 use Rattle.dns_lexer.specs.EntryTokens.{TokenSeen}
 use Rattle.rdata_fields.specs.TokenParsers.{TokenParser}
@@ -7,13 +7,11 @@ use Rattle.rdata_fields.specs.declared.record_error.RecordError.{RecordError}
 use Rattle.rdata_values.specs.declared.error.ErrorKind.{ErrorKind}
 use Rattle.rdata_values.specs.declared.error.ErrorKind.TheVariants.{ShortBuf}
 use Rattle.rdata_values.specs.declared.types.RecordType.{RecordType}
-use Rattle.rdata.specs.ByType.{ReadsType, shape_of_code}
+use Rattle.rdata.specs.ByType.{ReadsType}
 use Rattle.rdata.specs.Data.{ReadsData}
 use Rattle.rdata.specs.RestKinds.{rest_form, IsRestPart}
 use Rattle.rdata.specs.Rests.{RestForm}
-use Rattle.rdata.specs.Types.{TypeShape}
 use Rattle.rdata.specs.declared.rest.Rest.{Rest}
-use Rattle.rdata.specs.declared.rest.Rest.TheVariants.{Params}
 use Rattle.rdata.specs.declared.shape.Shape.{Shape}
 
 -- tokens are rejected at one of them, or at the entry's end, and for one reason
@@ -32,15 +30,10 @@ pub record HasOneError (Reads : Room → TokenParser (Unit {0})) : Type 0 where
   pub apart : (room other : Room) (end : ℕ) (tokens left last : List TokenSeen) (old before new after : List ℕ) (done : Unit {0}) (e : RecordError) → Reads room end tokens old (Ok done) left new → Reads other end tokens before (Err e) last after
       → e.kind ≢ ShortBuf → ⊥
 
--- the tail of a type is not service parameters
-abbrev pub HasOtherTail : Option TypeShape → Type 0
-HasOtherTail None = ⊤
-HasOtherTail (Some s) = s.rest ≢ Params
-
--- This holds of RDATA of each shape, and of RDATA of each type, whatever the origin is, where the tail is
--- not service parameters. Such a tail is rejected once, as one part.
+-- This holds of RDATA of each shape, and of RDATA of each type, whatever the origin is. Each kind of tail
+-- is rejected once, as one part.
 pub record HaveOneDataError : Type 0 where
-  pub rests : (origin : Option (List (List ℕ))) (r : Rest) → r ≢ Params → RejectsOnce (rest_form origin r)
+  pub rests : (origin : Option (List (List ℕ))) (r : Rest) → RejectsOnce (rest_form origin r)
   pub parts : (origin : Option (List (List ℕ))) (r : Rest) → HasOnePart origin r
-  pub shapes : (origin : Option (List (List ℕ))) (shape : Shape) → shape.rest ≢ Params → HasOneError (λ room. ReadsData origin room shape)
-  pub types : (origin : Option (List (List ℕ))) (rtype : RecordType) → HasOtherTail (shape_of_code rtype) → HasOneError (λ room. ReadsType origin room rtype)
+  pub shapes : (origin : Option (List (List ℕ))) (shape : Shape) → HasOneError (λ room. ReadsData origin room shape)
+  pub types : (origin : Option (List (List ℕ))) (rtype : RecordType) → HasOneError (λ room. ReadsType origin room rtype)
