@@ -43,17 +43,17 @@ fn is_at_apex<Apex: AsOctets, A: Allocator>(
 fn push_at_apex<Apex: AsOctets, A: Allocator, B: Allocator>(
     apex: &Name<Apex>,
     zone: &StoredZone<A>,
-    place: usize,
+    at: usize,
     rtype: RecordType,
     owner: &mut OwnerBuffer,
     out: &mut Vec<usize, B>,
 ) -> Result<(), AllocError>
-    requires { place < length zone.now.records }
-    ensures ok { OnOk result (AddsChosen rtype apex.now zone.now place out.old.items out.new.items) }
-    ensures err { OnErr result (is_chosen rtype apex.now zone.now place ≡ true) }
+    requires { at < length zone.now.records }
+    ensures ok { OnOk result (AddsChosen rtype apex.now zone.now at out.old.items out.new.items) }
+    ensures err { OnErr result (is_chosen rtype apex.now zone.now at ≡ true) }
 {
-    if is_at_apex(apex, zone, place, rtype, owner) {
-        out.push(place)?;
+    if is_at_apex(apex, zone, at, rtype, owner) {
+        out.push(at)?;
     }
     Ok(())
 }
