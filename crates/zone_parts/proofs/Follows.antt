@@ -1,5 +1,5 @@
 -- One more part follows others.
-use Rattle.std.proofs.Common.{ℕ, ◌≡◌, ◌≤◌, ◌+◌, ◌-◌, ◌++◌, List, [], ◌∷◌, refl, sym, ◌∙◌, arith}
+use Rattle.std.proofs.Common.{ℕ, ◌≡◌, ◌+◌, ◌-◌, ◌++◌, List, [], ◌∷◌, sym, arith}
 use Rattle.zone_parts.specs.PartSpans.{EndsPart, FollowTo, PartSpan}
 
 follow_on : (parts : List PartSpan) (from began len to : ℕ) → FollowTo parts from began → began + len ≡ to → FollowTo (parts ++ record { at = began; len = len } ∷ []) from to

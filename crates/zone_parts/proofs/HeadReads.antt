@@ -32,11 +32,11 @@ use Rattle.zone_reader.proofs.PastStates.{known_once, name_alone, starts}
 use Rattle.zone_reader.proofs.WordLemmas.{says_short_ttl}
 use Rattle.zone_record.specs.Records.{data_of, record_tokens}
 use Rattle.zone_record.specs.declared.record.Record.{Record}
-use Rattle.zone_stream.specs.Alike.{AreAlike, AreReadInTurn, ReadsHeadLine}
+use Rattle.zone_stream.specs.Alike.{AreReadInTurn, ReadsHeadLine}
 use Rattle.zone_stream.specs.Heads.{Line, default_ttl_lines, origin_lines}
 use Rattle.zone_stream.specs.LawSteps.{IsKnownRecord}
 use Rattle.zone_stream.proofs.ReadRecords.{record_leaves}
-use Rattle.zone_parts.specs.StateHeads.{LinesLeadThere, SetsOwner, SetsState, state_head_lines}
+use Rattle.zone_parts.specs.StateHeads.{LinesLeadThere, SetsOwner, SetsState}
 use Rattle.zone_parts.specs.declared.head.StateHead.{StateHead}
 
 -- ---- one line

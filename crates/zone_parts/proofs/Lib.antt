@@ -1,4 +1,5 @@
 mod Follows
 mod HeadReads
 mod HeadSteps
+mod Keeps
 mod Passes

@@ -6,7 +6,7 @@ use Rattle.dns_lexer.specs.EntryTokens.{TokenSeen}
 use Rattle.rdata_fields.specs.declared.record_error.RecordError.{RecordError}
 use Rattle.zone_reader.specs.Directives.{directive_of, first_directive}
 use Rattle.zone_reader.specs.EntryMeanings.{EntryMeaning, EntryMeans, FirstTokenMeans, says_record}
-use Rattle.zone_reader.specs.EntryReading.{ReadsAfterHeader, ReadsDataAfterHeader, ReadsMeaning, declared_by_entry, explicit_ttl_of, minimum_of_record, owner_of_record, record_with, ttl_of_header}
+use Rattle.zone_reader.specs.EntryReading.{ReadsAfterHeader, ReadsDataAfterHeader, ReadsMeaning, ReadsZoneEntry, declared_by_entry, explicit_ttl_of, minimum_of_record, owner_of_record, record_with, ttl_of_header}
 use Rattle.zone_reader.specs.EntrySteps.{owner_token, tokens_after_owner}
 use Rattle.std.proofs.lemmas.Option.{none-some}
 use Rattle.zone_reader.specs.HeaderWords.{FindsWord, TokenIsClass, TokenIsTtl}
@@ -136,18 +136,26 @@ module _ (before : State) (room : Room) (at end : ℕ) (old new : List ℕ) (res
 
 -- ---- one state is left
 
-pub leaves_always : (blank : Bool) (end : ℕ) (tokens : List TokenSeen) (ttl : Option ℕ) (before middle after : State) → tokens ≢ [] → begins_directive blank tokens ≡ false → knows_ttl before ≡ true
-    → Updates (owner_of_record (owner_token blank tokens)) before middle → FindsTtl (tokens_after_owner blank tokens) ttl → Updates (explicit_ttl_of ttl) middle after → LeavesAlways blank end tokens before after
-leaves_always blank end tokens ttl before middle after some plain knows owner finds learns = λ room old new result other h.
+-- a record leaves its owner and its TTL, whatever its RDATA is
+pub read_leaves : (blank : Bool) (end : ℕ) (tokens : List TokenSeen) (ttl : Option ℕ) (before : State) → tokens ≢ [] → begins_directive blank tokens ≡ false → knows_ttl before ≡ true → FindsTtl (tokens_after_owner blank tokens) ttl
+    → (room : Room) (old new : List ℕ) (result : Result ParsedEntry RecordError) (other : State) → ReadsZoneEntry room blank end tokens before old result other new
+    → StateAfter before (owner_of_record (owner_token blank tokens) ++ (explicit_ttl_of ttl ++ [])) other
+read_leaves blank end tokens ttl before some plain knows finds = λ room old new result other h.
     let said : IsRecordSaid blank end tokens h.meaning = record_said blank end tokens h.meaning some plain h.says in
     let header = said.0 in
     let m : EntryMeaning = says_record (owner_token blank tokens) header said.1 in
     let first = owner_of_record (owner_token blank tokens) in
-    let own = explicit_ttl_of ttl in
     let reads : ReadsMeaning before room end tokens m old result other.owner new = subst (λ x. ReadsMeaning before room end tokens x old result other.owner new) said.3 h.reads in
     let updates : Updates (declared_by_entry (first_directive blank tokens) m result) before other = subst (λ x. Updates (declared_by_entry (first_directive blank tokens) x result) before other) said.3 h.learns in
     let quiet : minimum_of_record result ≡ [] = record_quiet before room _ end old new result reads.0 header said.1 knows reads.2 in
     let there : StateAfter before (first ++ (explicit_ttl_of (ttl_of_header header) ++ [])) other = subst (λ l. StateAfter before (first ++ (explicit_ttl_of (ttl_of_header header) ++ l)) other) quiet (updates before [] (starts before)) in
-    let found : StateAfter before (first ++ (own ++ [])) other = subst (λ t. StateAfter before (first ++ (explicit_ttl_of t ++ [])) other) (header_ttl end (tokens_after_owner blank tokens) said.1 header ttl said.2 finds) there in
+    subst (λ t. StateAfter before (first ++ (explicit_ttl_of t ++ [])) other) (header_ttl end (tokens_after_owner blank tokens) said.1 header ttl said.2 finds) there
+
+pub leaves_always : (blank : Bool) (end : ℕ) (tokens : List TokenSeen) (ttl : Option ℕ) (before middle after : State) → tokens ≢ [] → begins_directive blank tokens ≡ false → knows_ttl before ≡ true
+    → Updates (owner_of_record (owner_token blank tokens)) before middle → FindsTtl (tokens_after_owner blank tokens) ttl → Updates (explicit_ttl_of ttl) middle after → LeavesAlways blank end tokens before after
+leaves_always blank end tokens ttl before middle after some plain knows owner finds learns = λ room old new result other h.
+    let first = owner_of_record (owner_token blank tokens) in
+    let own = explicit_ttl_of ttl in
+    let found : StateAfter before (first ++ (own ++ [])) other = read_leaves blank end tokens ttl before some plain knows finds room old new result other h in
     let here : StateAfter before (first ++ own) after = learns before first (owner before [] (starts before)) in
     known_once before (first ++ own) other after (subst (λ l. StateAfter before (first ++ l) other) (append-nil own) found) here

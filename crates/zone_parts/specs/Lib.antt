@@ -1,3 +1,4 @@
+pub mod Inherited
 pub mod PartSpans
 pub mod Passing
 mod Rows

@@ -1,5 +1,5 @@
 -- The lines that set a state.
-use Rattle.std.specs.Prelude.{⊤, ◌≡◌, ◌≢◌, ◌<◌, ◌^◌, ◌++◌, ◌∷◌, ℕ, [], List, map, refl, unwrap_or, Option, Some, None}
+use Rattle.std.specs.Prelude.{◌≡◌, ◌≢◌, ◌<◌, ◌^◌, ◌++◌, ◌∷◌, ℕ, [], List, map, refl, unwrap_or, Option, Some, None}
 use Rattle.std.specs.Option.{option_or, option_to_list}
 use Rattle.dns_octets.specs.Room.{Room}
 use Rattle.dns_zone.specs.Layout.{Step, newline}

@@ -5,8 +5,8 @@ ghost use Rattle.zone_parts.specs.StateHeads.{SetsState};
 ghost use Rattle.zone_stream.specs.Shares.{BeginsShare, MayBegin, no_shares};
 
 use crate::head::StateHead;
-use crate::octets::pass_first;
-use crate::pass_error::PassError;
+use crate::octets::{FilePlace, pass_all};
+use crate::passed::PassedEntries;
 use dns_octets::{AsOctetsMut, OctetsBuilder};
 use zone_reader::{State, Tape};
 use zone_stream::Shares;
@@ -86,14 +86,26 @@ impl PartFinder {
         self.began
     }
 
-    /// Passes the first entry of octets, and returns where it ends, or `None` if octets that follow may
-    /// change that. `is_last` says that none follow.
-    pub fn pass_first<B: OctetsBuilder + AsOctetsMut>(
+    /// Passes entries of octets, of which the first begins at an offset in the file: that entry, and those after
+    /// it before one with which a part may begin. `is_last` says that no octets follow. `max_entry` is the
+    /// greatest number of octets of an entry.
+    pub fn pass_entries<B: OctetsBuilder + AsOctetsMut>(
         &mut self,
         octets: &[u8],
+        at: usize,
         is_last: bool,
+        max_entry: usize,
         target: &mut B,
-    ) -> Option<Result<usize, PassError>> {
-        pass_first(octets, is_last, &mut self.tape, &mut self.state, target)
+    ) -> PassedEntries
+        ensures began { self.new.began ≡ self.old.began }
+        ensures shares { self.new.shares ≡ self.old.shares }
+    {
+        let place = FilePlace {
+            at,
+            is_last,
+            max_entry,
+        };
+        let tape = &mut self.tape;
+        pass_all(octets, place, &self.shares, tape, &mut self.state, target)
     }
 }

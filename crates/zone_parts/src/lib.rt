@@ -11,13 +11,17 @@
 pub mod finder;
 pub mod head;
 pub mod head_laws;
+mod last_owner;
 mod octets;
 pub mod part_line;
 pub mod pass;
 pub mod pass_error;
+pub mod passed;
+mod record;
 
 pub use finder::PartFinder;
 pub use head::{StateHead, state_of_head};
 pub use part_line::PartLine;
 pub use pass::pass_entry;
 pub use pass_error::PassError;
+pub use passed::{PassStop, PassedEntries};

@@ -17,14 +17,14 @@ use zone_reader::{
 };
 
 /// Returns whether the state has a TTL for a record without one. The minimum of an SOA is then not used.
-fn knows_ttl(state: &State) -> bool
+pub(crate) fn knows_ttl(state: &State) -> bool
     ensures { result ≡ knows_ttl state.now }
 {
     state.default_ttl.is_some() || state.last_ttl.is_some()
 }
 
 /// Returns whether an entry is a directive, by its first token.
-fn is_directive<S: TokenSource>(begins_blank: bool, source: &S) -> bool
+pub(crate) fn is_directive<S: TokenSource>(begins_blank: bool, source: &S) -> bool
     ensures { result ≡ begins_directive begins_blank (S.left source.now) }
 {
     if begins_blank {
@@ -37,7 +37,7 @@ fn is_directive<S: TokenSource>(begins_blank: bool, source: &S) -> bool
 }
 
 /// Parses the next token as a name. An invalid one is skipped too, and is a rejected name.
-fn parse_owner<S: TokenSource>(origin: Option<&NameBuffer>, source: &mut S) -> NameState
+pub(crate) fn parse_owner<S: TokenSource>(origin: Option<&NameBuffer>, source: &mut S) -> NameState
     ensures named { NamesNext (option_copied origin.entry) (S.left source.old) result }
     ensures left { S.left source.new ≡ drop 1 (S.left source.old) }
     ensures end { S.end source.new ≡ S.end source.old }
@@ -91,7 +91,7 @@ fn is_class<S: TokenSource>(source: &S) -> bool
 }
 
 /// Returns the explicit TTL of a record, if it has one: before its class, or after it.
-fn explicit_ttl<S: TokenSource>(source: &mut S) -> Option<u32>
+pub(crate) fn explicit_ttl<S: TokenSource>(source: &mut S) -> Option<u32>
     ensures found { FindsTtl (S.left source.old) result }
     ensures end { S.end source.new ≡ S.end source.old }
 {
@@ -106,7 +106,7 @@ fn explicit_ttl<S: TokenSource>(source: &mut S) -> Option<u32>
 }
 
 /// Stores the explicit TTL of a record, if it has one, as the last TTL.
-fn pass_ttl(state: &mut State, ttl: Option<u32>)
+pub(crate) fn pass_ttl(state: &mut State, ttl: Option<u32>)
     ensures { Updates (explicit_ttl_of ttl) state.old state.new }
 {
     match ttl {

@@ -9,7 +9,7 @@ use std::fs::File;
 use std::io::Write;
 use zone_format::place::LocatedOffset;
 use zone_parts::part_line::push_word;
-use zone_parts::{PartFinder, PartLine, PassError, StateHead};
+use zone_parts::{PartFinder, PartLine, PassError, PassStop, StateHead};
 use zone_reader::State;
 use zonetext_files::blocks::{BLOCK, read_block};
 use zonetext_files::data_buffer::DataBuffer;
@@ -256,13 +256,18 @@ impl<'f> OffsetFinder<'f> {
         Ok(())
     }
 
-    /// Begins a part with the entry that is passed next, if lines set the state there.
+    /// Begins a part with the entry that is passed next, if lines set the state there. After lines were
+    /// dropped, no more are made.
     #[inline(never)]
     fn begin_part(&mut self) -> Result<(), Stop> {
         if self.finder.head().is_none() {
             return Ok(());
         }
         let at = self.held.at();
+        if self.has_dropped {
+            let _len = self.finder.begin(at);
+            return Ok(());
+        }
         self.push_line(at)?;
         self.held.count();
         self.line = self.held.counted.position.line;
@@ -282,17 +287,16 @@ impl<'f> OffsetFinder<'f> {
             if self.finder.may_begin(self.held.at()) {
                 self.begin_part()?;
             }
-            let is_last = self.held.is_last;
+            let (at, is_last) = (self.held.at(), self.held.is_last);
+            let max_entry = self.options.max_entry;
             let rest = self.held.rest();
-            let passed = self.finder.pass_first(rest, is_last, &mut self.data);
-            match passed {
-                Some(Ok(count)) if count <= self.options.max_entry => {
-                    self.held.next = self.held.next.saturating_add(count);
-                }
-                Some(Ok(_)) => return Err(self.refuse_long()),
-                Some(Err(error)) => return Err(self.refuse_entry(error)),
-                None if rest.len() > self.options.max_entry => return Err(self.refuse_long()),
-                None => return Ok(()),
+            let passed = self.finder.pass_entries(rest, at, is_last, max_entry, &mut self.data);
+            self.held.next = self.held.next.saturating_add(passed.count);
+            match passed.stop {
+                PassStop::Entry => {}
+                PassStop::MoreOctets => return Ok(()),
+                PassStop::LongEntry => return Err(self.refuse_long()),
+                PassStop::Error(error) => return Err(self.refuse_entry(error)),
             }
         }
         Ok(())
