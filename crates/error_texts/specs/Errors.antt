@@ -70,3 +70,7 @@ part_message part e = part_prefix part ++ kind_text e.rtype e.kind
 -- the text of an error, as in `MX: preference: decimal number overflow`
 abbrev pub error_text : RecordError → List ℕ
 error_text e = error_type_prefix e.rtype ++ part_message (rejected_field e) e
+
+-- the text of a token on a line after that at whose end RDATA end, if these are read alone, as in `MX: the data end at the end of the line`
+abbrev pub line_end_text : Option RecordType → List ℕ
+line_end_text rtype = error_type_prefix rtype ++ codes "the data end at the end of the line"

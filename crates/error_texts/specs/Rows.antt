@@ -8,7 +8,7 @@ use Rattle.rdata_values.specs.declared.error.ErrorKind.{ErrorKind}
 use Rattle.rdata_values.specs.declared.error.ErrorKind.TheVariants.{ShortBuf, Syntax, EndOfEntry, TrailingToken, Quoted, QuotedName, NotQuoted, ExpectedNumber, NumberOverflow, ExpectedIpv4, ExpectedIpv6, ExpectedTtl, ExpectedInterval, ExpectedTime, UnknownType, UnknownClass, UnknownAlgorithm, UnknownCertificate, UnknownScheme, ExpectedEui48, ExpectedEui64, ExpectedLocator, ExpectedSalt, ExpectedPsdnAddress, BadEscape, LongString, BadTag, EmptyLabel, LongLabel, LongName, NoOrigin, ExpectedHex, UnevenHex, IllegalBase64, TrailingBase64, IncompleteBase64, IllegalBase32, ShortBase32, LongHash, ExpectedLatitude, ExpectedLongitude, ExpectedAltitude, ExpectedSize, ExpectedEnd, ExpectedPrefix, ExpectedNsap, ExpectedGateway, UnknownGateway, ExpectedHit, LongKey, QuotedParam, GluedParam, UnknownKey, UnexpectedValue, RepeatedKey, LongValue, RepeatedParam, ListString, ListEscape, ShortParams, ParamOrder, ParamValue, MissingParam, TypeZero, NotOfType, NoDataType, NoTextForm, WrongLength, TrailingArgument, NotSupported, UnknownDirective, NoOwner, RefusedOwner, NoTtl}
 use Rattle.error_texts.specs.Contents.{digest_text, high_escape_text, long_string_text}
 use Rattle.error_texts.specs.Digests.{digest_name, digest_place}
-use Rattle.error_texts.specs.Errors.{error_type_prefix, kind_text, part_prefix}
+use Rattle.error_texts.specs.Errors.{error_type_prefix, kind_text, line_end_text, part_prefix}
 
 -- the text of each kind of error
 abbrev texts : List (ErrorKind × List ℕ)
@@ -112,6 +112,10 @@ long_data = refl
 types : map error_type_prefix (Some Rtype.mx ∷ Some 65280 ∷ None ∷ []) ≡ codes "MX: " ∷ (codes "TYPE" ++ decimal 65280 ++ codes ": ") ∷ [] ∷ []
 unfolding type_rows
 types = refl
+
+ends_of_lines : map line_end_text (Some Rtype.mx ∷ None ∷ []) ≡ codes "MX: the data end at the end of the line" ∷ codes "the data end at the end of the line" ∷ []
+unfolding type_rows
+ends_of_lines = refl
 
 parts : map part_prefix (Some (codes "preference") ∷ None ∷ []) ≡ codes "preference: " ∷ [] ∷ []
 parts = refl

@@ -1,13 +1,14 @@
 //! The texts of errors.
 ghost use Rattle.std.specs.Prelude.{◌≡◌, option_copied, take};
 ghost use Rattle.error_texts.specs.Buffer.{AppendsCut};
-ghost use Rattle.error_texts.specs.Errors.{error_text, kind_text, part_message, rejected_field};
+ghost use Rattle.error_texts.specs.Errors.{error_text, kind_text, line_end_text, part_message, rejected_field};
 
 use crate::buffer::{MOST, append_text};
 use crate::kinds::kind_text;
 use crate::parts::{append_part, append_type_prefix, field_name};
 use arrayvec::ArrayVec;
 use rdata_fields::RecordError;
+use rdata_values::RecordType;
 
 /// Appends what is wrong.
 fn append_kind(error: &RecordError, target: &mut ArrayVec<u8, MOST>)
@@ -64,5 +65,23 @@ pub fn error_text(error: &RecordError) -> ArrayVec<u8, MOST>
 {
     let mut text = ArrayVec::new();
     append_error(error, &mut text);
+    text
+}
+
+/// Appends the type of RDATA, if one is passed, and that they end at the end of the line.
+fn append_line_end(rtype: Option<RecordType>, target: &mut ArrayVec<u8, MOST>)
+    ensures { AppendsCut (line_end_text rtype) target.old.items target.new.items }
+{
+    append_type_prefix(rtype, target);
+    append_text(b"the data end at the end of the line", target);
+}
+
+/// Returns the text of the error of RDATA that are read alone, and not from a zone file: a token is
+/// on a line after that at whose end they end.
+pub fn line_end_text(rtype: Option<RecordType>) -> ArrayVec<u8, MOST>
+    ensures { result.items ≡ take 255 (line_end_text rtype) }
+{
+    let mut text = ArrayVec::new();
+    append_line_end(rtype, &mut text);
     text
 }
