@@ -213,8 +213,9 @@ uint32_t dnstext_data_print(uint16_t code, const uint8_t *octets, size_t octets_
  *
  * Fails with DNSTEXT_BAD_DATA or DNSTEXT_NO_ORIGIN and the place of the error for text that isn't such
  * RDATA; the octets are then the error's text, as dnstext_record_next returns it: at most 255
- * characters, truncated to the buffer. A syntax error has its place and the length 0. A call uses at
- * most 16 KB of stack, but up to 80 KB for RDATA of more than 1,024 octets. */
+ * characters, truncated to the buffer. It is a text of its own if another line with tokens follows the
+ * entry. A syntax error has its place and the length 0. A call uses at most 16 KB of stack, but up to
+ * 80 KB for RDATA of more than 1,024 octets. */
 uint32_t dnstext_data_read(uint16_t code, const uint8_t *text, size_t text_len, const uint8_t *origin,
                            size_t origin_len, uint8_t *octets, size_t octets_len,
                            struct dnstext_outcome *outcome);

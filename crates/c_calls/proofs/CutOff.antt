@@ -12,7 +12,7 @@ use Rattle.rdata_fields.specs.declared.record_error.RecordError.{RecordError}
 use Rattle.zone_reader.specs.Source.{BeginsEntry, SourceSeen, parts_after_unread, entry_end, unread_entry_tokens}
 use Rattle.zone_reader.specs.declared.source.StartOfEntry.{StartOfEntry}
 use Rattle.c_calls.specs.Capacity.{ErrorLacksRoom, InCapacity}
-use Rattle.c_calls.specs.DataText.{DataAnswer, ReadsDataText, ReadsTokens, data_answer}
+use Rattle.c_calls.specs.DataText.{DataAnswer, ReadsDataText, ReadsTokens, data_answer, in_data}
 use Rattle.c_calls.proofs.Rooms.{Fits, type_so}
 
 -- what holds with each capacity holds whether or not octets fit
@@ -40,5 +40,5 @@ text_in n lacks rtype origin text answer source begun found seen closed at_start
     whole room reads = record { source = source; seen = seen; closed = closed; at_start = at_start; start = Ok found; begun = begun; begins = begins; reads = reads }
 
 pub text_cut : (rtype : RecordType) (origin : Option (List (List ℕ))) (text : List ℕ) (source begun : SourceSeen) (fault : Fault) (e : RecordError) → IsSeen text source.parts → source.is_open ≡ false → source.began ≡ 0 → BeginsEntry source (Err fault) begun
-    → e ≡ error_of_fault fault → (room : Room) → ReadsDataText room rtype origin text (Err e)
-text_cut rtype origin text source begun fault e seen closed at_start begins is room = record { source = source; seen = seen; closed = closed; at_start = at_start; start = Err fault; begun = begun; begins = begins; reads = ap Err is }
+    → e ≡ error_of_fault fault → (room : Room) → ReadsDataText room rtype origin text (Err (in_data e))
+text_cut rtype origin text source begun fault e seen closed at_start begins is room = record { source = source; seen = seen; closed = closed; at_start = at_start; start = Err fault; begun = begun; begins = begins; reads = ap (λ x. Err (in_data x)) is }

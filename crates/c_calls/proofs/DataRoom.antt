@@ -30,7 +30,7 @@ use Rattle.c_calls.specs.DataText.{DataAnswer, ReadsDataText, ReadsFirstData, Re
 use Rattle.c_calls.specs.EnoughRoom.{FillsOrKeeps, GenerateCalls}
 use Rattle.c_calls.specs.Generates.{EntryCall, WritesIndex, WritesNumber, WritesNumberIf, found_directive}
 use Rattle.c_calls.specs.Kept.{IsOriginOf}
-use Rattle.c_calls.specs.Reasons.{ReportsError, ReportsErrorText, refusal_of_entry, refusal_of_name, syntax_of}
+use Rattle.c_calls.specs.Reasons.{DataError, ReportsDataError, ReportsError, ReportsErrorText, refusal_of_entry, refusal_of_name, syntax_of}
 use Rattle.c_calls.specs.Reports.{CopiesWhole, number_of}
 use Rattle.c_calls.specs.declared.outcome.Outcome.{Outcome}
 use Rattle.c_calls.proofs.KindsElse.{entry_else}
@@ -128,6 +128,10 @@ text_else None e old new outcome h = entry_else e.rtype e.kind (sym (room_alone 
 pub error_else : (e : RecordError) (old new : List ℕ) (outcome : Outcome) → ReportsError e old 2 new outcome → ⊥
 error_else e old new outcome h = text_else (syntax_of e.kind) e old new outcome h
 
+data_else : (e : DataError) (old new : List ℕ) (outcome : Outcome) → ReportsDataError e old 2 new outcome → ⊥
+data_else (e, false) old new outcome h = error_else e old new outcome h
+data_else (e, true) old new outcome h = let told = h.told_is in cc
+
 no_empty_name : (labels : List (List ℕ)) → MakesName [] (Ok labels) → ⊥
 no_empty_name labels h = elim h [
   | inl long ↦ let no = long.1 in cc
@@ -152,7 +156,7 @@ module _ (rtype : RecordType) (text origin : List ℕ) where
   read_copied : (old new : List ℕ) (outcome : Outcome) (known : Option (List (List ℕ))) (answer : DataAnswer) → IsOriginOf origin known → ReadsDataText (exactly 65535) rtype known text answer → ReportsData answer old 2 new outcome
       → (x : List ℕ) × IsRead x × CopiesWhole x old 2 new outcome
   read_copied old new outcome known (Ok octets) is r c = (octets, (known, is, r), c)
-  read_copied old new outcome known (Err e) is r c = absurd (error_else e old new outcome c)
+  read_copied old new outcome known (Err e) is r c = absurd (data_else e old new outcome c)
 
   data_copied : (old new : List ℕ) (outcome : Outcome) → ReportsReadData rtype text origin old 2 new outcome → (x : List ℕ) × IsRead x × CopiesWhole x old 2 new outcome
   data_copied old new outcome (inl h) = read_copied old new outcome h.0 h.2.0 h.1 h.2.1 h.2.2

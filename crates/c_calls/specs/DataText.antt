@@ -1,5 +1,5 @@
 -- The results of printing data of a type, and of parsing its text.
-use Rattle.std.specs.Prelude.{◌≡◌, ◌≢◌, ◌⊎◌, ◌+◌, ◌≤◌, ℕ, Bool, false, List, [], ◌∷◌, ◌++◌, length, take, drop, Option, Result, Ok, Err}
+use Rattle.std.specs.Prelude.{◌≡◌, ◌≢◌, ◌⊎◌, ◌+◌, ◌≤◌, ℕ, Bool, true, false, List, [], ◌∷◌, ◌++◌, length, take, drop, Option, Result, Ok, Err}
 use Rattle.std.specs.Borrow.{Bor}
 use Rattle.std.specs.Fmt.{WritesInCalls}
 use Rattle.std.specs.Option.{option_copied}
@@ -26,7 +26,7 @@ use Rattle.dns_zone.specs.Printed.{printed}
 use Rattle.dns_zone.specs.declared.zonefile_fmt.DisplayKind.TheVariants.{Simple}
 use Rattle.c_calls.specs.Capacity.{InCapacity}
 use Rattle.c_calls.specs.Kept.{IsOriginOf}
-use Rattle.c_calls.specs.Reasons.{ReportsError, refusal_of_name}
+use Rattle.c_calls.specs.Reasons.{DataError, ReportsDataError, refusal_of_name}
 use Rattle.c_calls.specs.Reports.{ReportsFault, CopiesWhole, at_start}
 use Rattle.c_calls.specs.declared.outcome.Fault.{Fault}
 use Rattle.c_calls.specs.declared.outcome.Outcome.{Outcome}
@@ -84,23 +84,34 @@ ReportsCanonical rtype octets old status new outcome =
     (IsTypeData rtype octets × ReportsForm (record { rtype = rtype; octets = octets }) old status new outcome)
     ⊎ ((e : WireError) × RefusesWire rtype octets e × ReportsFault (fault_of_wire e) status outcome × (new ≡ old))
 
--- a token after the data
+-- a token on a line after that of the data
 abbrev pub trailing_token : RecordType → ℕ → RecordError
 trailing_token rtype at = error_of_type rtype (error_at at TrailingToken)
 
 -- the octets of data, or an error
 abbrev pub DataAnswer : Type 0
-DataAnswer = Result (List ℕ) RecordError
+DataAnswer = Result (List ℕ) DataError
+
+-- an error of the data, or of the syntax
+abbrev pub in_data : RecordError → DataError
+in_data e = (e, false)
+
+-- an error of a line after that of the data
+abbrev pub on_next_line : RecordError → DataError
+on_next_line e = (e, true)
 
 -- the octets that were read, or the error
 abbrev pub answered : Result (Unit {0}) RecordError → List ℕ → DataAnswer
 answered (Ok _) octets = Ok octets
-answered (Err e) octets = Err e
+answered (Err e) octets = Err (in_data e)
 
--- the error of a result alone; and whether octets don't fit
-abbrev pub error_alone : {X : Type 0} → Result X Rejected → Result X RecordError
-error_alone (Ok x) = Ok x
-error_alone (Err r) = Err r.error
+abbrev pub data_error : Rejected → DataError
+data_error r = (r.error, r.is_next_line)
+
+-- the octets of a text, or the error; and whether octets don't fit
+abbrev pub text_answered : Result (Unit {0}) Rejected → List ℕ → DataAnswer
+text_answered (Ok _) octets = Ok octets
+text_answered (Err r) octets = Err (data_error r)
 
 abbrev pub lacks_of : {X : Type 0} → Result X Rejected → Bool
 lacks_of (Ok x) = false
@@ -110,13 +121,13 @@ lacks_of (Err r) = r.lacks
 abbrev pub answer_before : RecordType → List ℕ → List (Result PartSeen TextFault) → DataAnswer
 answer_before rtype octets [] = Ok octets
 answer_before rtype octets (Ok (EndIs e) ∷ parts) = answer_before rtype octets parts
-answer_before rtype octets (Ok (TokenIs t b) ∷ parts) = Err (trailing_token rtype t.at)
-answer_before rtype octets (Err f ∷ parts) = Err (error_of_fault f)
+answer_before rtype octets (Ok (TokenIs t b) ∷ parts) = Err (on_next_line (trailing_token rtype t.at))
+answer_before rtype octets (Err f ∷ parts) = Err (in_data (error_of_fault f))
 
 -- the result of an entry that was read, by what comes after its tokens: a syntax error comes first
 abbrev pub data_answer : RecordType → Result (Unit {0}) RecordError → List ℕ → List (Result PartSeen TextFault) → DataAnswer
-data_answer rtype read octets (Err f ∷ parts) = Err (error_of_fault f)
-data_answer rtype (Err e) octets parts = Err e
+data_answer rtype read octets (Err f ∷ parts) = Err (in_data (error_of_fault f))
+data_answer rtype (Err e) octets parts = Err (in_data e)
 data_answer rtype (Ok _) octets parts = answer_before rtype octets parts
 
 -- the tokens of the open entry are read as data of a type, or no tokens if no entry is open
@@ -132,15 +143,15 @@ ReadsRemaining n rtype origin old result new =
 
 -- the open entry is read, and what comes after it, with capacity n, and with any capacity unless octets don't fit: the octets are the data, or an error is returned
 abbrev pub ReadsOpen : ℕ → RecordType → Option (Bor (List (List ℕ))) → SourceSeen → Result (Unit {0}) Rejected → List ℕ → Type 0
-ReadsOpen n rtype origin begun result octets = InCapacity n (lacks_of result) (λ room. ReadsTokens room rtype (option_copied origin) begun (answered (error_alone result) octets))
+ReadsOpen n rtype origin begun result octets = InCapacity n (lacks_of result) (λ room. ReadsTokens room rtype (option_copied origin) begun (text_answered result octets))
 
 -- what comes after the entry of the data is read
 abbrev pub EndsText : RecordType → Result (Unit {0}) Rejected → List (Result PartSeen TextFault) → Type 0
-EndsText rtype result parts = (octets : List ℕ) → answered (error_alone result) octets ≡ answer_before rtype octets parts
+EndsText rtype result parts = (octets : List ℕ) → text_answered result octets ≡ answer_before rtype octets parts
 
 -- the first entry that has tokens is read, or no tokens if the text has no such entry; or a syntax error comes before its tokens
 abbrev pub ReadsFirstData : Room → RecordType → Option (List (List ℕ)) → Result (Option StartOfEntry) TextFault → SourceSeen → DataAnswer → Type 0
-ReadsFirstData room rtype origin (Err f) begun answer = answer ≡ Err (error_of_fault f)
+ReadsFirstData room rtype origin (Err f) begun answer = answer ≡ Err (in_data (error_of_fault f))
 ReadsFirstData room rtype origin (Ok found) begun answer = ReadsTokens room rtype origin begun answer
 
 -- a text of one entry is read as data of a type, with some capacity
@@ -156,18 +167,18 @@ pub record ReadsDataText (room : Room) (rtype : RecordType) (origin : Option (Li
 
 -- the same, as a result and octets
 abbrev pub AnswersText : ℕ → RecordType → Option (Bor (List (List ℕ))) → List ℕ → Result (Unit {0}) Rejected → List ℕ → Type 0
-AnswersText n rtype origin text result octets = InCapacity n (lacks_of result) (λ room. ReadsDataText room rtype (option_copied origin) text (answered (error_alone result) octets))
+AnswersText n rtype origin text result octets = InCapacity n (lacks_of result) (λ room. ReadsDataText room rtype (option_copied origin) text (text_answered result octets))
 
 -- the octets are returned; or the error is reported
 abbrev pub ReportsData : DataAnswer → List ℕ → ℕ → List ℕ → Outcome → Type 0
 ReportsData (Ok octets) old status new outcome = CopiesWhole octets old status new outcome
-ReportsData (Err e) old status new outcome = ReportsError e old status new outcome
+ReportsData (Err e) old status new outcome = ReportsDataError e old status new outcome
 
 -- the octets of data are returned, with capacity n; or they are rejected, and nothing was written
 abbrev pub WritesData : ℕ → RecordType → Option (Bor (List (List ℕ))) → List ℕ → List ℕ → Result ℕ Rejected → List ℕ → Outcome → Type 0
 WritesData n rtype origin text old (Ok status) new outcome =
     (octets : List ℕ) × InCapacity n false (λ room. ReadsDataText room rtype (option_copied origin) text (Ok octets)) × CopiesWhole octets old status new outcome
-WritesData n rtype origin text old (Err r) new outcome = InCapacity n r.lacks (λ room. ReadsDataText room rtype (option_copied origin) text (Err r.error)) × (new ≡ old)
+WritesData n rtype origin text old (Err r) new outcome = InCapacity n r.lacks (λ room. ReadsDataText room rtype (option_copied origin) text (Err (data_error r))) × (new ≡ old)
 
 -- a text is read, with an origin for relative names, and the result is reported
 abbrev pub ReportsDataBelow : RecordType → List ℕ → Option (List (List ℕ)) → List ℕ → ℕ → List ℕ → Outcome → Type 0

@@ -1,6 +1,6 @@
 -- Why a text, an entry or data is rejected: the status, and the text of the error.
-use Rattle.std.specs.Prelude.{◌≡◌, ℕ, List, take, Option, Some, None}
-use Rattle.error_texts.specs.Errors.{error_text}
+use Rattle.std.specs.Prelude.{◌≡◌, ℕ, Bool, true, false, List, take, Option, Some, None}
+use Rattle.error_texts.specs.Errors.{error_text, line_end_text}
 use Rattle.rdata_fields.specs.declared.record_error.RecordError.{RecordError}
 use Rattle.rdata_values.specs.declared.error.ErrorKind.{ErrorKind}
 use Rattle.rdata_values.specs.declared.error.ErrorKind.TheVariants.{Syntax, QuotedName, BadEscape as NoEscape, EmptyLabel as NoOctets, LongLabel as LabelTooLong, LongName as NameTooLong, NoOrigin as OriginUnknown}
@@ -67,3 +67,17 @@ ReportsErrorText None error old told new outcome = ReportsReason error old told 
 
 abbrev pub ReportsError : RecordError → List ℕ → ℕ → List ℕ → Outcome → Type 0
 ReportsError error old told new outcome = ReportsErrorText (syntax_of error.kind) error old told new outcome
+
+-- the status and the offset of a token on a line after that of data, and the part of its text that fits
+pub record ReportsNextLine (error : RecordError) (old : List ℕ) (told : ℕ) (new : List ℕ) (outcome : Outcome) : Type 0 where
+  pub told_is : told ≡ number_of BadData
+  pub place : outcome.place ≡ error.offset
+  pub text : WritesPrefix (take 255 (line_end_text error.rtype)) old new outcome.length
+
+-- an error of data that is read alone, and whether it is a token on a line after that of the data
+abbrev pub DataError : Type 0
+DataError = RecordError × Bool
+
+abbrev pub ReportsDataError : DataError → List ℕ → ℕ → List ℕ → Outcome → Type 0
+ReportsDataError (e, false) old told new outcome = ReportsError e old told new outcome
+ReportsDataError (e, true) old told new outcome = ReportsNextLine e old told new outcome

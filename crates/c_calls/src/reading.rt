@@ -1,11 +1,12 @@
 //! Parses record data.
 ghost use Rattle.std.specs.Prelude.{◌≡◌, ◌≤◌, [], false, true};
 ghost use Rattle.zone_reader.specs.Source.{entry_end};
-ghost use Rattle.c_calls.specs.DataText.{EndsText, ReadsRemaining, ReadsOpen, AnswersText, ReportsRead, ReportsReadData, WritesData, trailing_token};
+ghost use Rattle.c_calls.specs.DataText.{EndsText, ReadsRemaining, ReadsOpen, AnswersText, ReportsRead, ReportsReadData, WritesData, data_error, trailing_token};
+ghost use Rattle.c_calls.specs.Reasons.{ReportsDataError};
 
 use crate::kept::{name_of, refusal_of_name};
 use crate::outcome::{Fault, Outcome, copy_whole, refuse};
-use crate::reasons::{read_lacks, report_error};
+use crate::reasons::{read_lacks, report_error, report_next_line};
 use arrayvec::ArrayVec;
 use rdata::read_rdata;
 use rdata_fields::{RecordError, TokenSource};
@@ -18,15 +19,17 @@ const MOST: usize = 65535;
 /// Number of octets that suffices for most record data.
 const FEW: usize = 1024;
 
-/// Why a text is rejected as data, and whether its octets don't fit, also if a syntax error follows
-/// them. Only if they don't may the result be another one with more capacity.
+/// Why a text is rejected as data, whether that is a token on a line after that of the data, and
+/// whether its octets don't fit, also if a syntax error follows them. Only if they don't may the
+/// result be another one with more capacity.
 #[derive(Drop)]
 struct Rejected {
     error: RecordError,
+    is_next_line: bool,
     lacks: bool,
 }
 
-/// Returns the error of a token after the entry of the data.
+/// Returns the error of a token on a line after that of the data.
 fn trailing_token(rtype: RecordType, at: usize) -> RecordError
     ensures { result ≡ trailing_token rtype at }
 {
@@ -42,10 +45,12 @@ fn end_text(rtype: RecordType, source: &mut EntrySource) -> Result<(), Rejected>
         Ok(None) => Ok(()),
         Ok(Some(_)) => Err(Rejected {
             error: trailing_token(rtype, source.place()),
+            is_next_line: true,
             lacks: false,
         }),
         Err(fault) => Err(Rejected {
             error: RecordError::from(fault),
+            is_next_line: false,
             lacks: false,
         }),
     }
@@ -80,11 +85,19 @@ fn read_open<const N: usize>(
     let lacks = read_lacks(&read);
     if let Err(fault) = source.finish() {
         let error = RecordError::from(fault);
-        return Err(Rejected { error, lacks });
+        return Err(Rejected {
+            error,
+            is_next_line: false,
+            lacks,
+        });
     }
     match read {
         Ok(()) => end_text(rtype, source),
-        Err(error) => Err(Rejected { error, lacks }),
+        Err(error) => Err(Rejected {
+            error,
+            is_next_line: false,
+            lacks,
+        }),
     }
 }
 
@@ -104,7 +117,11 @@ fn read_nothing<const N: usize>(
     let lacks = read_lacks(&read);
     match read {
         Ok(()) => Ok(()),
-        Err(error) => Err(Rejected { error, lacks }),
+        Err(error) => Err(Rejected {
+            error,
+            is_next_line: false,
+            lacks,
+        }),
     }
 }
 
@@ -124,6 +141,7 @@ fn read_text<const N: usize>(
         Ok(None) => read_nothing(rtype, origin, &mut source, target),
         Err(fault) => Err(Rejected {
             error: RecordError::from(fault),
+            is_next_line: false,
             lacks: false,
         }),
     }
@@ -151,6 +169,17 @@ fn read_in_room<const N: usize>(
     }
 }
 
+/// Reports why a text is rejected as data.
+fn report_rejected(rejected: &Rejected, octets: &mut [u8], outcome: &mut Outcome) -> u32
+    ensures { ReportsDataError (data_error rejected.now) octets.old result octets.new outcome.new }
+{
+    if rejected.is_next_line {
+        report_next_line(&rejected.error, octets, outcome)
+    } else {
+        report_error(&rejected.error, octets, outcome)
+    }
+}
+
 /// Parses data of a type, with an origin for relative names and capacity for the longest data.
 #[cold]
 fn read_long(
@@ -164,7 +193,7 @@ fn read_long(
 {
     match read_in_room::<MOST>(rtype, text, origin, octets, outcome) {
         Ok(status) => status,
-        Err(rejected) => report_error(&rejected.error, octets, outcome),
+        Err(rejected) => report_rejected(&rejected, octets, outcome),
     }
 }
 
@@ -185,7 +214,7 @@ fn read_with_origin(
             if rejected.lacks {
                 return read_long(rtype, text, origin, octets, outcome);
             }
-            report_error(&rejected.error, octets, outcome)
+            report_rejected(&rejected, octets, outcome)
         }
     }
 }

@@ -2,12 +2,12 @@
 ghost use Rattle.std.specs.Prelude.{◌≡◌, ◌↔◌, IsTrue};
 ghost use Rattle.rdata_values.specs.declared.error.ErrorKind.TheVariants.{ShortBuf};
 ghost use Rattle.c_calls.specs.Capacity.{ErrorLacksRoom};
-ghost use Rattle.c_calls.specs.Reasons.{ReportsError, ReportsReason, refusal_of_data, refusal_of_entry, refusal_of_head, syntax_of};
+ghost use Rattle.c_calls.specs.Reasons.{ReportsError, ReportsNextLine, ReportsReason, refusal_of_data, refusal_of_entry, refusal_of_head, syntax_of};
 
 use crate::outcome::{Fault, Outcome, Refusal, number_of, refuse, write_prefix};
 use crate::tokens::refusal_of_wrong;
 use dns_lexer::pieces::Wrong;
-use error_texts::errors::error_text;
+use error_texts::errors::{error_text, line_end_text};
 use rdata_fields::RecordError;
 use rdata_values::{ErrorKind, RecordType};
 
@@ -106,4 +106,18 @@ pub(crate) fn report_error(error: &RecordError, octets: &mut [u8], outcome: &mut
         }
         None => report_reason(error, octets, outcome),
     }
+}
+
+/// Reports a token on a line after that of data: its place, and the characters of its text that
+/// fit.
+#[cold]
+pub(crate) fn report_next_line(error: &RecordError, octets: &mut [u8], outcome: &mut Outcome) -> u32
+    ensures { ReportsNextLine error.now octets.old result octets.new outcome.new }
+{
+    let text = line_end_text(error.rtype);
+    *outcome = Outcome {
+        length: write_prefix(text.as_slice(), octets),
+        place: error.offset,
+    };
+    number_of(Refusal::BadData)
 }
