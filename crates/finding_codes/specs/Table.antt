@@ -114,7 +114,7 @@ first_rows =
     finding_row TargetCname (codes "target-cname") Warning OfZone none Target (codes "target is a CNAME or below a DNAME") ∷
     finding_row TargetMissing (codes "target-missing") Warning OfZone of_absence Target (codes "target is not in the zone") ∷
     finding_row HostName (codes "host-name") Warning OfZone none Whole (codes "not a host name: letters, digits and hyphens only") ∷
-    finding_row Cds (codes "cds") Warning OfZone of_absence Whole (codes "CDS or CDNSKEY without a DNSKEY") ∷
+    finding_row Cds (codes "cds") Warning OfZone of_absence Whole (codes "CDS or CDNSKEY of an algorithm without a DNSKEY") ∷
     finding_row TtlDiffers (codes "ttl-differs") Warning OfZone none Whole (codes "TTL is not that of the RRset") ∷
     finding_row Duplicate (codes "duplicate") Warning OfZone none Whole (codes "duplicate record") ∷
     finding_row NotAtApex (codes "not-at-apex") Warning OfZone none Whole (codes "type that belongs at the apex") ∷
@@ -158,7 +158,7 @@ later_rows =
     finding_row Nsec3Iterations50 (codes "nsec3-iterations-50") Warning OfSigned none Whole (codes "more than 50 iterations: newer validators treat the zone as unsigned") ∷
     finding_row Nsec3Iterations0 (codes "nsec3-iterations-0") Warning OfSigned none Whole (codes "NSEC3 has iterations: 0 is advised (RFC 9276)") ∷
     finding_row NsecTtl (codes "nsec-ttl") Warning OfSigned none Whole (codes "TTL is not the lesser of the SOA's TTL and minimum") ∷
-    finding_row CdsDelete (codes "cds-delete") Error OfSigned none Whole (codes "CDS or CDNSKEY asks to delete, and another asks for keys") ∷
+    finding_row CdsDelete (codes "cds-delete") Error OfZone none Whole (codes "CDS or CDNSKEY asks to delete, and another asks for keys") ∷
     finding_row RrsigLength (codes "rrsig-length") Error OfSigned none Whole (codes "signature has another length than those of its algorithm") ∷
     finding_row KeyLength (codes "key-length") Error OfSigned none Whole (codes "key has another length than those of its algorithm") ∷
     finding_row Nsec3Extra (codes "nsec3-extra") Error OfSigned of_absence Whole (codes "NSEC3 of no name of the zone") ∷
@@ -187,7 +187,7 @@ later_rows =
     finding_row CdsDiffers (codes "cds-differs") Warning OfSigned none Whole (codes "CDS and CDNSKEY are not of the same keys") ∷
     finding_row UnsignedApex (codes "unsigned-apex") Warning OfSigned none Whole (codes "zone has signatures, and its apex has none") ∷
     finding_row Unportable (codes "unportable") Warning OfRecords none Whole [] ∷
-    finding_row KeyBesideCname (codes "key-beside-cname") Warning OfZone none OwnOwner (codes "KEY beside a CNAME: Knot, NSD and ldns reject it") ∷
+    finding_row KeyBesideCname (codes "key-beside-cname") Warning OfZone none Whole (codes "KEY beside a CNAME: Knot, NSD and ldns reject it") ∷
     finding_row SpfUnused (codes "spf-unused") Warning OfRecords none (Field 0) (codes "term of an SPF record that no receiver reaches") ∷
     finding_row SpfLookups (codes "spf-lookups") Warning OfZone none Whole (codes "SPF record with more than 10 look-ups") ∷
     finding_row Dmarc (codes "dmarc") Warning OfRecords none (Field 0) (codes "malformed DMARC record, which has no effect") ∷
@@ -227,6 +227,11 @@ way_rows =
     finding_way CaaValue 2 (Field 0) (codes "unknown flags: 0 or 128 is meant") ∷
     finding_way SvcbAlias 1 Target (codes "alias (priority 0) beside others, which have no effect") ∷
     finding_way SvcbAlias 2 Target (codes "another alias (priority 0) of the name: clients use one at random") ∷
+    finding_way Unportable 1 Whole (codes "BIND rejects this word") ∷
+    finding_way Unportable 2 Whole (codes "only BIND reads this word") ∷
+    finding_way Unportable 3 Whole (codes "no server reads this word") ∷
+    finding_way Unportable 4 Whole (codes "Knot rejects this word") ∷
+    finding_way Unportable 5 Whole (codes "some servers reject this word") ∷
     []
 
 abbrev pub way_seen : Way → FindingWay

@@ -156,7 +156,7 @@ pub enum Code {
     TargetMissing,
     /// A name that must be a host name is not one.
     HostName,
-    /// The zone has a CDS, but no DNSKEY at its apex.
+    /// The record is a CDS or CDNSKEY at the apex, and no DNSKEY there is of its algorithm.
     Cds,
     /// Records of an RRset differ in TTL.
     TtlDiffers,

@@ -186,7 +186,7 @@ static FIRST_ROWS: [Row; 67] = [
     row!(TargetCname => "target-cname", Warning, Zone, NONE, TARGET, "target is a CNAME or below a DNAME"),
     row!(TargetMissing => "target-missing", Warning, Zone, ABSENCE, TARGET, "target is not in the zone"),
     row!(HostName => "host-name", Warning, Zone, NONE, WHOLE, "not a host name: letters, digits and hyphens only"),
-    row!(Cds => "cds", Warning, Zone, ABSENCE, WHOLE, "CDS or CDNSKEY without a DNSKEY"),
+    row!(Cds => "cds", Warning, Zone, ABSENCE, WHOLE, "CDS or CDNSKEY of an algorithm without a DNSKEY"),
     row!(TtlDiffers => "ttl-differs", Warning, Zone, NONE, WHOLE, "TTL is not that of the RRset"),
     row!(Duplicate => "duplicate", Warning, Zone, NONE, WHOLE, "duplicate record"),
     row!(NotAtApex => "not-at-apex", Warning, Zone, NONE, WHOLE, "type that belongs at the apex"),
@@ -228,7 +228,7 @@ static LATER_ROWS: [Row; 66] = [
     row!(Nsec3Iterations50 => "nsec3-iterations-50", Warning, Signed, NONE, WHOLE, "more than 50 iterations: newer validators treat the zone as unsigned"),
     row!(Nsec3Iterations0 => "nsec3-iterations-0", Warning, Signed, NONE, WHOLE, "NSEC3 has iterations: 0 is advised (RFC 9276)"),
     row!(NsecTtl => "nsec-ttl", Warning, Signed, NONE, WHOLE, "TTL is not the lesser of the SOA's TTL and minimum"),
-    row!(CdsDelete => "cds-delete", Error, Signed, NONE, WHOLE, "CDS or CDNSKEY asks to delete, and another asks for keys"),
+    row!(CdsDelete => "cds-delete", Error, Zone, NONE, WHOLE, "CDS or CDNSKEY asks to delete, and another asks for keys"),
     row!(RrsigLength => "rrsig-length", Error, Signed, NONE, WHOLE, "signature has another length than those of its algorithm"),
     row!(KeyLength => "key-length", Error, Signed, NONE, WHOLE, "key has another length than those of its algorithm"),
     row!(Nsec3Extra => "nsec3-extra", Error, Signed, ABSENCE, WHOLE, "NSEC3 of no name of the zone"),
@@ -257,7 +257,7 @@ static LATER_ROWS: [Row; 66] = [
     row!(CdsDiffers => "cds-differs", Warning, Signed, NONE, WHOLE, "CDS and CDNSKEY are not of the same keys"),
     row!(UnsignedApex => "unsigned-apex", Warning, Signed, NONE, WHOLE, "zone has signatures, and its apex has none"),
     row!(Unportable => "unportable", Warning, Records, NONE, WHOLE, ""),
-    row!(KeyBesideCname => "key-beside-cname", Warning, Zone, NONE, OWNER, "KEY beside a CNAME: Knot, NSD and ldns reject it"),
+    row!(KeyBesideCname => "key-beside-cname", Warning, Zone, NONE, WHOLE, "KEY beside a CNAME: Knot, NSD and ldns reject it"),
     row!(SpfUnused => "spf-unused", Warning, Records, NONE, FIELD_0, "term of an SPF record that no receiver reaches"),
     row!(SpfLookups => "spf-lookups", Warning, Zone, NONE, WHOLE, "SPF record with more than 10 look-ups"),
     row!(Dmarc => "dmarc", Warning, Records, NONE, FIELD_0, "malformed DMARC record, which has no effect"),
@@ -269,7 +269,7 @@ static LATER_ROWS: [Row; 66] = [
     row!(UnusedAllow => "unused-allow", Warning, Records, NONE, WHOLE, ""),
 ];
 
-static WAYS: [Way; 11] = [
+static WAYS: [Way; 16] = [
     way!(
         CaaTag,
         1,
@@ -326,10 +326,15 @@ static WAYS: [Way; 11] = [
         TARGET,
         "another alias (priority 0) of the name: clients use one at random"
     ),
+    way!(Unportable, 1, WHOLE, "BIND rejects this word"),
+    way!(Unportable, 2, WHOLE, "only BIND reads this word"),
+    way!(Unportable, 3, WHOLE, "no server reads this word"),
+    way!(Unportable, 4, WHOLE, "Knot rejects this word"),
+    way!(Unportable, 5, WHOLE, "some servers reject this word"),
 ];
 
 /// Returns the further ways of all codes.
-pub fn ways() -> &'static [Way; 11]
+pub fn ways() -> &'static [Way; 16]
     ensures { map way_seen result.now ≡ way_rows }
 {
     &WAYS
