@@ -7,7 +7,7 @@ use Rattle.std.proofs.lemmas.Bool.Decides.{nat_tests}
 use Rattle.dns_wire.specs.Order.{same_name}
 use Rattle.finding_codes.specs.Rule.{coded_rule}
 use Rattle.finding_codes.specs.declared.code.Code.{Code}
-use Rattle.finding_codes.specs.declared.code.Code.TheVariants.{Outside, TwoSoas, NsAddress, Cname, BelowDname, WildcardNs, SoaNotApex, NsBesideDname, HostName, DsWithoutNs, NotAtApex, KeyProtocol, KeyAlgorithm, CnameTargetMissing, CnameLoop, TwoSpf, WeakDigest, SingleNs, TtlDiffers, Duplicate, Dname, DsApex, Nsec3Wildcard, Glue, TargetCname, TargetMissing, Cds, NullMx, ZonemdSerial, TlsaHost, SvcbAlias}
+use Rattle.finding_codes.specs.declared.code.Code.TheVariants.{Outside, TwoSoas, NsAddress, Cname, BelowDname, WildcardNs, SoaNotApex, NsBesideDname, KeyBesideCname, HostName, DsWithoutNs, NotAtApex, KeyProtocol, KeyAlgorithm, CnameTargetMissing, CnameLoop, TwoSpf, WeakDigest, SingleNs, TtlDiffers, Duplicate, Dname, DsApex, Nsec3Wildcard, Glue, TargetCname, TargetMissing, Cds, CdsDelete, NullMx, ZonemdSerial, TlsaHost, SvcbAlias}
 use Rattle.finding_codes.specs.declared.rule.Rule.{Rule}
 use Rattle.rdata_values.specs.Rtype as Rtype
 use Rattle.rdata_values.specs.declared.types.RecordType.{RecordType}
@@ -58,12 +58,14 @@ other_in_way DsApex way origin records refused b r h = refl
 other_in_way WildcardNs way origin records refused b r h = refl
 other_in_way SoaNotApex way origin records refused b r h = refl
 other_in_way NsBesideDname way origin records refused b r h = refl
+other_in_way KeyBesideCname way origin records refused b r h = refl
 other_in_way Nsec3Wildcard way origin records refused b r h = refl
 other_in_way Glue way origin records refused b r h = refl
 other_in_way TargetCname way origin records refused b r h = refl
 other_in_way TargetMissing way origin records refused b r h = refl
 other_in_way HostName way origin records refused b r h = refl
 other_in_way Cds way origin records refused b r h = refl
+other_in_way CdsDelete way origin records refused b r h = refl
 other_in_way DsWithoutNs way origin records refused b r h = refl
 other_in_way NotAtApex way origin records refused b r h = refl
 other_in_way KeyProtocol way origin records refused b r h = refl
@@ -168,6 +170,7 @@ none_in_way DsApex way origin records refused before r h = ap (λ t. t && same_n
 none_in_way WildcardNs way origin records refused before r h = ap (λ t. t && is_wildcard r.owner) h
 none_in_way SoaNotApex way origin records refused before r h = ap (λ t. t && is_below r.owner origin) h
 none_in_way NsBesideDname way origin records refused before r h = first_false _ _ h
+none_in_way KeyBesideCname way origin records refused before r h = first_false _ _ h
 none_in_way Nsec3Wildcard way origin records refused before r h = first_false _ _ h
 none_in_way Glue way origin records refused before r h = first_false _ _ h
 none_in_way TargetCname way origin records refused before r h = either_way (way == 0) _ _ (names_none _ r h) (names_none _ r h)
@@ -176,6 +179,7 @@ none_in_way TargetMissing way origin records refused before r h =
     both_no _ _ (second_no _ _ (second_no (r.class == _) _ (names_none _ r no.0))) (no_target _ _ _ no.1)
 none_in_way HostName way origin records refused before r h = cc
 none_in_way Cds way origin records refused before r h = first_false _ _ h
+none_in_way CdsDelete way origin records refused before r h = first_false _ _ h
 none_in_way DsWithoutNs way origin records refused before r h = first_false _ _ h
 none_in_way NotAtApex way origin records refused before r h = neither (is_apex_type (type_of r)) (type_of r == Rtype.dnskey) _ _ h
 none_in_way KeyProtocol way origin records refused before r h = first_false _ _ h

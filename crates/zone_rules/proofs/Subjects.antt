@@ -6,7 +6,7 @@ use Rattle.std.specs.Option.{option_map, option_map_or}
 use Rattle.std.proofs.lemmas.Bool.{cases_lt, false≢true, or_left, or_right}
 use Rattle.std.proofs.lemmas.Option.{slice_get-get_or}
 use Rattle.finding_codes.specs.declared.code.Code.{Code}
-use Rattle.finding_codes.specs.declared.code.Code.TheVariants.{Outside, TwoSoas, NsAddress, Cname, BelowDname, WildcardNs, SoaNotApex, NsBesideDname, HostName, DsWithoutNs, NotAtApex, KeyProtocol, KeyAlgorithm, CnameTargetMissing, CnameLoop, TwoSpf, WeakDigest, SingleNs, TtlDiffers, Duplicate, Dname, DsApex, Nsec3Wildcard, Glue, TargetCname, TargetMissing, Cds, NullMx, ZonemdSerial, TlsaHost, SvcbAlias}
+use Rattle.finding_codes.specs.declared.code.Code.TheVariants.{Outside, TwoSoas, NsAddress, Cname, BelowDname, WildcardNs, SoaNotApex, NsBesideDname, KeyBesideCname, HostName, DsWithoutNs, NotAtApex, KeyProtocol, KeyAlgorithm, CnameTargetMissing, CnameLoop, TwoSpf, WeakDigest, SingleNs, TtlDiffers, Duplicate, Dname, DsApex, Nsec3Wildcard, Glue, TargetCname, TargetMissing, Cds, CdsDelete, NullMx, ZonemdSerial, TlsaHost, SvcbAlias}
 use Rattle.finding_codes.specs.declared.rule.Rule.{Rule}
 use Rattle.rdata_values.specs.Classes.{internet}
 use Rattle.rdata_values.specs.Rtype as Rtype
@@ -15,13 +15,13 @@ use Rattle.dns_wire.specs.Order.{same_name}
 use Rattle.zone_rules.specs.Above.{is_below, is_within}
 use Rattle.zone_rules.specs.Findings.{breaks_at}
 use Rattle.zone_rules.specs.Present.{has_address_in}
-use Rattle.zone_rules.specs.Rules.{breaks, breaks_in_way, has_serial_of, is_alias, is_alias_mode, is_below_own_dname, is_beside_aliases, is_missing, is_of_sha1, are_of_one_key, is_record_at_apex, is_without_glue, lacks_address, names_host}
+use Rattle.zone_rules.specs.Rules.{algorithm_of, are_one_octet, breaks, breaks_in_way, has_serial_of, is_alias, is_alias_mode, is_below_own_dname, is_beside_aliases, is_delete_request, is_for_parent, is_missing, is_of_sha1, are_of_one_key, is_record_at_apex, is_without_glue, lacks_address, names_host}
 use Rattle.zone_rules.specs.Searches.{AreOwnedFrom}
 use Rattle.zone_rules.specs.Spf.{is_spf}
 use Rattle.zone_rules.specs.Subjects.{alike, is_apex_server, is_server_above, relates, wants_host, AreHostFaults, IsSubject}
 use Rattle.zone_rules.specs.Zones.{as_listed, comes_before, host_of, is_equal_record, record_before, type_of}
 use Rattle.zone_rules.specs.declared.beside.Relation.{Relation}
-use Rattle.zone_rules.specs.declared.beside.Relation.TheVariants.{Alias, Spf, Digest, Sha1, SameType, OtherSerial, Service}
+use Rattle.zone_rules.specs.declared.beside.Relation.TheVariants.{Alias, Spf, Digest, Sha1, SameType, OtherSerial, Service, KeyRequest, KeyOfAlgorithm}
 use Rattle.zone_rules.specs.declared.refused.RrsetName.{RrsetName}
 use Rattle.zone_rules.specs.declared.subject.HostFaults.{HostFaults}
 use Rattle.zone_rules.specs.declared.subject.Subject.{Subject}
@@ -47,12 +47,14 @@ listed_in_way R S DsApex way origin records refused before r = refl
 listed_in_way R S WildcardNs way origin records refused before r = refl
 listed_in_way R S SoaNotApex way origin records refused before r = refl
 listed_in_way R S NsBesideDname way origin records refused before r = refl
+listed_in_way R S KeyBesideCname way origin records refused before r = refl
 listed_in_way R S Nsec3Wildcard way origin records refused before r = refl
 listed_in_way R S Glue way origin records refused before r = refl
 listed_in_way R S TargetCname way origin records refused before r = refl
 listed_in_way R S TargetMissing way origin records refused before r = refl
 listed_in_way R S HostName way origin records refused before r = refl
 listed_in_way R S Cds way origin records refused before r = refl
+listed_in_way R S CdsDelete way origin records refused before r = refl
 listed_in_way R S DsWithoutNs way origin records refused before r = refl
 listed_in_way R S NotAtApex way origin records refused before r = refl
 listed_in_way R S KeyProtocol way origin records refused before r = refl
@@ -101,6 +103,8 @@ listed_related R S Sha1 one (Some r) = refl
 listed_related R S SameType one (Some r) = refl
 listed_related R S OtherSerial one (Some r) = refl
 listed_related R S Service one (Some r) = refl
+listed_related R S KeyRequest one (Some r) = refl
+listed_related R S KeyOfAlgorithm one (Some r) = refl
 
 pub related_listed : {N O M P R S : Type 0} (relation : Relation) (one : Record M P) (o : Option (Record N O)) (got : Option (Record R S)) → got ≡ option_map as_listed o
     → option_map_or (relates relation one) got false ≡ option_map_or (relates relation one) o false
@@ -143,6 +147,8 @@ related_owned Digest one r h = ap (λ b. (b && (r.class == one.class && (type_of
 related_owned Sha1 one r h = ap (λ b. (b && (r.class == one.class && (type_of r == Rtype.ds && are_of_one_key one r))) && is_of_sha1 r) h
 related_owned SameType one r h = ap (λ b. b && (type_of r == type_of one && not (is_equal_record one r))) h
 related_owned OtherSerial one r h = ap (λ b. b && (type_of r == Rtype.soa && not (has_serial_of one r))) h
+related_owned KeyRequest one r h = ap (λ b. b && (is_for_parent r && not (is_delete_request r))) h
+related_owned KeyOfAlgorithm one r h = ap (λ b. b && (type_of r == Rtype.dnskey && are_one_octet (algorithm_of one) (algorithm_of r))) h
 related_owned Service one r h = ap (λ b. (b && (type_of r == type_of one && not (is_equal_record one r))) && not (is_alias_mode r)) h
 
 -- no record passes a test that is of an owner if none of those at this owner does

@@ -13,7 +13,7 @@ use Rattle.zone_rules.specs.Base32Texts.{is_base32_text}
 use Rattle.zone_rules.specs.Findings.{found_in_zone}
 use Rattle.zone_rules.specs.HostNames.{is_bad_host_name, is_host_label, is_host_name, is_mailbox_name}
 use Rattle.zone_rules.specs.Present.{closest_encloser, is_synthesized}
-use Rattle.zone_rules.specs.Rules.{are_two_of, has_spf_before, have_other_ttls, has_no_algorithm, has_other_protocol, is_alias_in_company, is_alias_loop, is_below_dname, is_below_its_apex, is_dname_at_cut, has_lost_host, has_other_serial, has_wrong_alias, is_lone_server, is_null_mx, is_null_mx_beside, is_soa_below_apex, is_unhashed_nsec3, is_weak_digest, lacks_glue, lacks_key, lacks_ns, lacks_ns_address, is_alias_mode, names_alias, names_missing, names_no_service, names_nothing, names_renamed, tlsa_host}
+use Rattle.zone_rules.specs.Rules.{are_two_of, deletes_beside_keys, has_spf_before, have_other_ttls, has_no_algorithm, has_other_protocol, is_alias_in_company, is_alias_loop, is_below_dname, is_below_its_apex, is_dname_at_cut, is_key_at_alias, has_lost_host, has_other_serial, has_wrong_alias, is_lone_server, is_null_mx, is_null_mx_beside, is_soa_below_apex, is_unhashed_nsec3, is_weak_digest, lacks_glue, lacks_key, lacks_ns, lacks_ns_address, is_alias_mode, names_alias, names_missing, names_no_service, names_nothing, names_renamed, tlsa_host}
 use Rattle.zone_rules.specs.Spf.{is_spf}
 use Rattle.zone_rules.specs.Zones.{host_of, is_one_set, is_one_owner}
 use Rattle.zone_rules.specs.declared.refused.RrsetName.{RrsetName}
@@ -309,6 +309,31 @@ deletion_row = refl
 
 key_row : lacks_key apex no_records [] (entry apex Rtype.cdnskey (1 ∷ 1 ∷ 3 ∷ 8 ∷ 1 ∷ [])) ≡ true
 key_row = refl
+
+-- of a DNSKEY, and of another algorithm
+own_key_row : lacks_key apex (entry apex Rtype.dnskey (1 ∷ 1 ∷ 3 ∷ 8 ∷ 1 ∷ []) ∷ []) [] (entry apex Rtype.cds (1 ∷ 1 ∷ 8 ∷ 2 ∷ 1 ∷ [])) ≡ false
+own_key_row = refl
+
+other_key_row : lacks_key apex (entry apex Rtype.dnskey (1 ∷ 1 ∷ 3 ∷ 13 ∷ 1 ∷ []) ∷ []) [] (entry apex Rtype.cds (1 ∷ 1 ∷ 8 ∷ 2 ∷ 1 ∷ [])) ≡ true
+other_key_row = refl
+
+-- below the apex
+lower_cds_row : lacks_key apex no_records [] (entry (under (codes "d")) Rtype.cds (1 ∷ 1 ∷ 8 ∷ 2 ∷ 1 ∷ [])) ≡ false
+lower_cds_row = refl
+
+-- a delete request beside another CDS, and alone
+both_row : deletes_beside_keys apex (entry apex Rtype.cds (1 ∷ 1 ∷ 8 ∷ 2 ∷ 1 ∷ []) ∷ []) (entry apex Rtype.cds (0 ∷ 0 ∷ 0 ∷ 0 ∷ 0 ∷ [])) ≡ true
+both_row = refl
+
+lone_deletion_row : deletes_beside_keys apex no_records (entry apex Rtype.cds (0 ∷ 0 ∷ 0 ∷ 0 ∷ 0 ∷ [])) ≡ false
+lone_deletion_row = refl
+
+-- a KEY beside a CNAME (RFC 4035 section 2.5), and alone
+alias_key_row : is_key_at_alias (entry (under (codes "d")) Rtype.cname [] ∷ []) (entry (under (codes "d")) Rtype.key []) ≡ true
+alias_key_row = refl
+
+lone_key_row : is_key_at_alias no_records (entry (under (codes "d")) Rtype.key []) ≡ false
+lone_key_row = refl
 
 no_delegation_row : lacks_ns apex no_records [] (entry (under (codes "d")) Rtype.ds []) ≡ true
 no_delegation_row = refl

@@ -6,7 +6,7 @@ use Rattle.std.specs.Option.{option_map_or}
 use Rattle.dns_octets.specs.Lowered.{same_lowered}
 use Rattle.dns_wire.specs.Order.{same_name}
 use Rattle.finding_codes.specs.declared.code.Code.{Code}
-use Rattle.finding_codes.specs.declared.code.Code.TheVariants.{Outside, TwoSoas, NsAddress, Cname, BelowDname, WildcardNs, SoaNotApex, NsBesideDname, HostName, DsWithoutNs, NotAtApex, KeyProtocol, KeyAlgorithm, CnameTargetMissing, CnameLoop, TwoSpf, WeakDigest, SingleNs, TtlDiffers, Duplicate, Dname, DsApex, Nsec3Wildcard, Glue, TargetCname, TargetMissing, Cds, NullMx, ZonemdSerial, TlsaHost, SvcbAlias}
+use Rattle.finding_codes.specs.declared.code.Code.TheVariants.{Outside, TwoSoas, NsAddress, Cname, BelowDname, WildcardNs, SoaNotApex, NsBesideDname, KeyBesideCname, HostName, DsWithoutNs, NotAtApex, KeyProtocol, KeyAlgorithm, CnameTargetMissing, CnameLoop, TwoSpf, WeakDigest, SingleNs, TtlDiffers, Duplicate, Dname, DsApex, Nsec3Wildcard, Glue, TargetCname, TargetMissing, Cds, CdsDelete, NullMx, ZonemdSerial, TlsaHost, SvcbAlias}
 use Rattle.finding_codes.specs.declared.rule.Rule.{Rule}
 use Rattle.rdata_values.specs.Classes.{internet}
 use Rattle.rdata_values.specs.Rtype as Rtype
@@ -239,9 +239,42 @@ abbrev pub is_delete_request : {N O : Type 0} → Record N O → Bool
 is_delete_request r =
     (type_of r == Rtype.cds && pointwise nat_eq (data_of r).octets (0 ∷ 0 ∷ 0 ∷ 0 ∷ 0 ∷ [])) || (type_of r == Rtype.cdnskey && pointwise nat_eq (data_of r).octets (0 ∷ 0 ∷ 3 ∷ 0 ∷ 0 ∷ []))
 
--- a CDS or CDNSKEY that is not a delete request (RFC 8078 section 4), and no DNSKEY at the apex
+abbrev pub is_for_parent : {N O : Type 0} → Record N O → Bool
+is_for_parent r = type_of r == Rtype.cds || type_of r == Rtype.cdnskey
+
+-- another record at a record's owner is a CDS or CDNSKEY that is not a delete request
+abbrev pub is_request_beside : {N O M P : Type 0} → Record N O → Record M P → Bool
+is_request_beside r other = same_name other.owner r.owner && (is_for_parent other && not (is_delete_request other))
+
+-- a delete request at the apex, and another CDS or CDNSKEY there that is not one (RFC 8078 section 4)
+abbrev pub deletes_beside_keys : {N O M P : Type 0} → List (List ℕ) → List (Record N O) → Record M P → Bool
+deletes_beside_keys origin records r = is_for_parent r && (is_delete_request r && (same_name r.owner origin && list_any (is_request_beside r) records))
+
+-- both are octets, and equal
+abbrev pub are_one_octet : Option ℕ → Option ℕ → Bool
+are_one_octet (Some a) (Some b) = a == b
+are_one_octet (Some a) None = false
+are_one_octet None b = false
+
+-- the offset of the algorithm in the data of a CDS (RFC 7344 section 3.1), and of a DNSKEY or CDNSKEY (RFC 4034 section 2.1)
+abbrev pub algorithm_offset : RecordType → ℕ
+algorithm_offset rtype = if rtype == Rtype.cds then 2 else 3
+
+abbrev pub algorithm_of : {N O : Type 0} → Record N O → Option ℕ
+algorithm_of r = slice_get (data_of r).octets (algorithm_offset (type_of r))
+
+-- another record at a record's owner is a DNSKEY of its algorithm
+abbrev pub is_key_of_algorithm : {N O M P : Type 0} → Record N O → Record M P → Bool
+is_key_of_algorithm r other = same_name other.owner r.owner && (type_of other == Rtype.dnskey && are_one_octet (algorithm_of r) (algorithm_of other))
+
+-- a CDS or CDNSKEY at the apex that is not a delete request (RFC 8078 section 4), and no DNSKEY there is of its algorithm
 abbrev pub lacks_key : {N O M P : Type 0} → List (List ℕ) → List (Record N O) → List RrsetName → Record M P → Bool
-lacks_key origin records refused r = (type_of r == Rtype.cds || type_of r == Rtype.cdnskey) && (not (is_delete_request r) && not (is_present Rtype.dnskey origin records refused))
+lacks_key origin records refused r =
+    is_for_parent r && (not (is_delete_request r) && (same_name r.owner origin && (not (is_listed Rtype.dnskey r.owner refused) && not (list_any (is_key_of_algorithm r) records))))
+
+-- a KEY, and a CNAME at its owner: RFC 4035 section 2.5 allows it
+abbrev pub is_key_at_alias : {N O M P : Type 0} → List (Record N O) → Record M P → Bool
+is_key_at_alias records r = type_of r == Rtype.key && has_type_at Rtype.cname r.owner records
 
 -- a DS below the apex, and no NS at its owner
 abbrev pub lacks_ns : {N O M P : Type 0} → List (List ℕ) → List (Record N O) → List RrsetName → Record M P → Bool
@@ -377,12 +410,14 @@ breaks_in_way DsApex way origin records refused before r = is_record_at_apex Rty
 breaks_in_way WildcardNs way origin records refused before r = is_wildcard_ns r
 breaks_in_way SoaNotApex way origin records refused before r = is_soa_below_apex origin r
 breaks_in_way NsBesideDname way origin records refused before r = is_dname_at_cut origin records r
+breaks_in_way KeyBesideCname way origin records refused before r = is_key_at_alias records r
 breaks_in_way Nsec3Wildcard way origin records refused before r = is_unhashed_nsec3 r
 breaks_in_way Glue way origin records refused before r = lacks_glue origin records refused r
 breaks_in_way TargetCname way origin records refused before r = if way == 0 then names_alias origin records refused r else names_renamed origin records refused r
 breaks_in_way TargetMissing way origin records refused before r = names_missing origin records refused r || names_no_service origin records refused r
 breaks_in_way HostName way origin records refused before r = is_bad_host_name r
 breaks_in_way Cds way origin records refused before r = lacks_key origin records refused r
+breaks_in_way CdsDelete way origin records refused before r = deletes_beside_keys origin records r
 breaks_in_way DsWithoutNs way origin records refused before r = lacks_ns origin records refused r
 breaks_in_way NotAtApex way origin records refused before r = is_below_its_apex origin records refused r
 breaks_in_way KeyProtocol way origin records refused before r = has_other_protocol r

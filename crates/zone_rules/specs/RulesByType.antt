@@ -1,7 +1,7 @@
 -- The rules that a record of a type may break.
 use Rattle.std.specs.Prelude.{◌≡◌, ◌==◌, ◌||◌, Bool, true, false, List, filter}
 use Rattle.finding_codes.specs.declared.code.Code.{Code}
-use Rattle.finding_codes.specs.declared.code.Code.TheVariants.{Outside, TwoSoas, NsAddress, Cname, BelowDname, WildcardNs, SoaNotApex, NsBesideDname, HostName, DsWithoutNs, NotAtApex, KeyProtocol, KeyAlgorithm, CnameTargetMissing, CnameLoop, TwoSpf, WeakDigest, SingleNs, TtlDiffers, Duplicate, Dname, DsApex, Nsec3Wildcard, Glue, TargetCname, TargetMissing, Cds, NullMx, ZonemdSerial, TlsaHost, SvcbAlias}
+use Rattle.finding_codes.specs.declared.code.Code.TheVariants.{Outside, TwoSoas, NsAddress, Cname, BelowDname, WildcardNs, SoaNotApex, NsBesideDname, KeyBesideCname, HostName, DsWithoutNs, NotAtApex, KeyProtocol, KeyAlgorithm, CnameTargetMissing, CnameLoop, TwoSpf, WeakDigest, SingleNs, TtlDiffers, Duplicate, Dname, DsApex, Nsec3Wildcard, Glue, TargetCname, TargetMissing, Cds, CdsDelete, NullMx, ZonemdSerial, TlsaHost, SvcbAlias}
 use Rattle.finding_codes.specs.declared.rule.Rule.{Rule}
 use Rattle.rdata_values.specs.Rtype as Rtype
 use Rattle.rdata_values.specs.declared.types.RecordType.{RecordType}
@@ -24,12 +24,14 @@ may_break_code rtype DsApex = rtype == Rtype.ds
 may_break_code rtype WildcardNs = rtype == Rtype.ns
 may_break_code rtype SoaNotApex = rtype == Rtype.soa
 may_break_code rtype NsBesideDname = rtype == Rtype.dname
+may_break_code rtype KeyBesideCname = rtype == Rtype.key
 may_break_code rtype Nsec3Wildcard = rtype == Rtype.nsec3
 may_break_code rtype Glue = rtype == Rtype.ns
 may_break_code rtype TargetCname = has_host_field rtype
 may_break_code rtype TargetMissing = has_host_field rtype || is_service_type rtype
 may_break_code rtype HostName = true
 may_break_code rtype Cds = rtype == Rtype.cds || rtype == Rtype.cdnskey
+may_break_code rtype CdsDelete = rtype == Rtype.cds || rtype == Rtype.cdnskey
 may_break_code rtype DsWithoutNs = rtype == Rtype.ds
 may_break_code rtype NotAtApex = is_apex_type rtype || rtype == Rtype.dnskey
 may_break_code rtype KeyProtocol = rtype == Rtype.dnskey

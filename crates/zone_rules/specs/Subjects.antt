@@ -9,10 +9,10 @@ use Rattle.zone_record.specs.declared.record.Record.{Record}
 use Rattle.zone_rules.specs.Above.{is_below, is_within, parent_of}
 use Rattle.zone_rules.specs.Findings.{breaks_at}
 use Rattle.zone_rules.specs.Present.{is_present}
-use Rattle.zone_rules.specs.Rules.{alias_at, breaks, is_beside_alias, is_digest_beside, is_ds_beside, is_of_sha1, is_record_at_apex, is_service_beside, is_other_of_type, is_soa_of_other_serial, leads_to, is_spf_beside, lacks_glue, lacks_ns_address, names_alias, names_missing, names_renamed}
+use Rattle.zone_rules.specs.Rules.{alias_at, breaks, is_beside_alias, is_digest_beside, is_ds_beside, is_key_of_algorithm, is_of_sha1, is_record_at_apex, is_request_beside, is_service_beside, is_other_of_type, is_soa_of_other_serial, leads_to, is_spf_beside, lacks_glue, lacks_ns_address, names_alias, names_missing, names_renamed}
 use Rattle.zone_rules.specs.Zones.{as_listed, has_type_at, record_before, type_of}
 use Rattle.zone_rules.specs.declared.beside.Relation.{Relation}
-use Rattle.zone_rules.specs.declared.beside.Relation.TheVariants.{Alias, Spf, Digest, Sha1, SameType, OtherSerial, Service}
+use Rattle.zone_rules.specs.declared.beside.Relation.TheVariants.{Alias, Spf, Digest, Sha1, SameType, OtherSerial, Service, KeyRequest, KeyOfAlgorithm}
 use Rattle.zone_rules.specs.declared.refused.RrsetName.{RrsetName}
 use Rattle.zone_rules.specs.declared.subject.HostFaults.{HostFaults}
 use Rattle.zone_rules.specs.declared.subject.Subject.{Subject}
@@ -76,6 +76,8 @@ relates Sha1 r other = is_sha1_beside r other
 relates SameType r other = is_other_of_type r other
 relates OtherSerial r other = is_soa_of_other_serial r other
 relates Service r other = is_service_beside r other
+relates KeyRequest r other = is_request_beside r other
+relates KeyOfAlgorithm r other = is_key_of_algorithm r other
 
 -- the record at an index is the other one
 abbrev pub relates_at : {N O M P : Type 0} → Relation → Record M P → List (Record N O) → ℕ → Bool

@@ -8,7 +8,7 @@ ghost use Rattle.zone_rules.specs.Zones.{type_of};
 
 use crate::by_set::has_related_by_set;
 use crate::hosts::names_server;
-use crate::keys::{is_of_same_key, is_of_sha1};
+use crate::keys::{is_key_of_algorithm, is_of_same_key, is_of_sha1, is_request_beside};
 use crate::names::is_same;
 use crate::pairs::{are_equal, comes_before, have_one_owner};
 use crate::refused::{SortedSets, lists_set};
@@ -36,6 +36,10 @@ pub enum Relation {
     OtherSerial,
     /// The other one has the same type and differs, and is a service in ServiceMode.
     Service,
+    /// The other one is a CDS or CDNSKEY, and no delete request.
+    KeyRequest,
+    /// The other one is a DNSKEY of the algorithm of this one, a CDS or CDNSKEY.
+    KeyOfAlgorithm,
 }
 
 /// Returns whether the owner of a CNAME may have records of a type besides it (RFC 4035 section 2.5).
@@ -95,6 +99,8 @@ fn is_related(relation: Relation, record: &ZoneRecord<'_>, other: &ZoneRecord<'_
         Relation::SameType => is_other_of_type(record, other),
         Relation::OtherSerial => is_soa_of_other_serial(record, other),
         Relation::Service => is_other_of_type(record, other) && !is_alias_mode(other),
+        Relation::KeyRequest => is_request_beside(record, other),
+        Relation::KeyOfAlgorithm => is_key_of_algorithm(record, other),
     }
 }
 

@@ -12,7 +12,8 @@ use crate::hash_owners::is_nsec3_without_hash;
 use crate::host_names::is_no_host_name;
 use crate::hosts::{host_faults, is_dname_at_delegation};
 use crate::keys::{
-    is_ds_without_ns, is_not_at_apex, is_of_other_protocol, is_without_algorithm, is_without_key,
+    is_deletion_beside, is_ds_without_ns, is_key_beside_alias, is_not_at_apex,
+    is_of_other_protocol, is_without_algorithm, is_without_key,
 };
 use crate::mail_exchanges::is_null_mx_beside;
 use crate::names::view;
@@ -74,6 +75,7 @@ fn breaks_rule<Z: ZoneRecords>(
         Code::WildcardNs => is_ns_at_wildcard(record),
         Code::SoaNotApex => is_soa_elsewhere(origin, record),
         Code::NsBesideDname => is_dname_at_delegation(origin, records, place, record),
+        Code::KeyBesideCname => is_key_beside_alias(records, place, record),
         Code::Nsec3Wildcard => is_nsec3_without_hash(record),
         Code::Glue => faults.lacks_glue,
         Code::TargetCname => names_other(rule.way, faults),
@@ -81,7 +83,8 @@ fn breaks_rule<Z: ZoneRecords>(
             faults.is_missing || is_service_missing(origin, records, refused, place, record)
         }
         Code::HostName => is_no_host_name(record),
-        Code::Cds => is_without_key(origin, records, refused, record),
+        Code::Cds => is_without_key(origin, records, refused, place, record),
+        Code::CdsDelete => is_deletion_beside(origin, records, place, record),
         Code::DsWithoutNs => is_ds_without_ns(origin, records, refused, place, record),
         Code::NotAtApex => is_not_at_apex(origin, records, refused, place, record),
         Code::KeyProtocol => is_of_other_protocol(record),

@@ -1,12 +1,14 @@
 //! Checks keys, and records that belong at an apex.
 ghost use Rattle.std.specs.Prelude.{◌≡◌, ◌==◌, slice_get};
 ghost use Rattle.zone_record.specs.Records.{data_of};
-ghost use Rattle.zone_rules.specs.Rules.{are_of_one_key, has_no_algorithm, has_octet_at, has_other_protocol, have_one_octet, is_apex_type, is_below_its_apex, is_delete_request, is_of_sha1, lacks_key, lacks_ns};
+ghost use Rattle.zone_rules.specs.Rules.{algorithm_of, algorithm_offset, are_of_one_key, are_one_octet, deletes_beside_keys, has_no_algorithm, has_octet_at, has_other_protocol, have_one_octet, is_apex_type, is_below_its_apex, is_delete_request, is_for_parent, is_key_at_alias, is_key_of_algorithm, is_of_sha1, is_request_beside, lacks_key, lacks_ns};
 ghost use Rattle.zone_rules.specs.Subjects.{IsRecordAt};
 
-use crate::names::is_name_below;
-use crate::present::{has_own_set, has_set};
-use crate::refused::SortedSets;
+use crate::beside::{Relation, has_related};
+use crate::names::{is_name_below, is_same};
+use crate::pairs::have_one_owner;
+use crate::present::{has_own_set, has_own_type};
+use crate::refused::{SortedSets, lists_set};
 use crate::zone_records::{ZoneRecord, ZoneRecords};
 use dns_octets::AsOctets;
 use dns_wire::Name;
@@ -25,19 +27,102 @@ fn is_deletion<Owner: AsOctets, Octets: AsOctets>(record: &Record<Owner, Octets>
     }
 }
 
-/// Returns whether a record is a CDS or CDNSKEY other than a delete request, and the zone has no
-/// DNSKEY.
+/// Returns the offset of the algorithm in the data of a CDS, DNSKEY or CDNSKEY.
+fn algorithm_offset(rtype: RecordType) -> usize
+    ensures { result ≡ algorithm_offset rtype }
+{
+    if rtype == RecordType::CDS { 2 } else { 3 }
+}
+
+/// Returns the algorithm of a CDS, DNSKEY or CDNSKEY.
+fn algorithm_of<Owner: AsOctets, Octets: AsOctets>(record: &Record<Owner, Octets>) -> Option<u8>
+    ensures { result ≡ algorithm_of «record».now }
+{
+    octet_at(record, algorithm_offset(record.data.rtype()))
+}
+
+/// Returns whether two octets are known, and equal.
+fn are_one_octet(left: Option<u8>, right: Option<u8>) -> bool
+    ensures { result ≡ are_one_octet left right }
+{
+    let Some(left) = left else {
+        return false;
+    };
+    match right {
+        Some(right) => left == right,
+        None => false,
+    }
+}
+
+/// Returns whether another record at a record's owner is a DNSKEY of its algorithm.
+pub(crate) fn is_key_of_algorithm(record: &ZoneRecord<'_>, other: &ZoneRecord<'_>) -> bool
+    ensures { result ≡ is_key_of_algorithm «record».now other.now }
+{
+    have_one_owner(&*other, &*record)
+        && other.data.rtype() == RecordType::DNSKEY
+        && are_one_octet(algorithm_of(&*record), algorithm_of(&*other))
+}
+
+/// Returns whether a record is a CDS or CDNSKEY.
+fn is_for_parent<Owner: AsOctets, Octets: AsOctets>(record: &Record<Owner, Octets>) -> bool
+    ensures { result ≡ is_for_parent «record».now }
+{
+    matches!(record.data.rtype(), RecordType::CDS | RecordType::CDNSKEY)
+}
+
+/// Returns whether another record at a record's owner is a CDS or CDNSKEY, and no delete request.
+pub(crate) fn is_request_beside(record: &ZoneRecord<'_>, other: &ZoneRecord<'_>) -> bool
+    ensures { result ≡ is_request_beside «record».now other.now }
+{
+    have_one_owner(&*other, &*record) && is_for_parent(&*other) && !is_deletion(&*other)
+}
+
+/// Returns whether a record is a delete request at the apex, and another record there asks for keys.
+pub(crate) fn is_deletion_beside<Z: ZoneRecords>(
+    origin: &Name<&[u8]>,
+    records: &Z,
+    place: usize,
+    record: &ZoneRecord<'_>,
+) -> bool
+    requires { IsRecordAt (Z.contents records.now) place «record».now }
+    ensures { result ≡ deletes_beside_keys origin.now (Z.contents records.now) «record».now }
+{
+    is_for_parent(record)
+        && is_deletion(record)
+        && is_same(&record.owner, origin)
+        && has_related(records, Relation::KeyRequest, place, record)
+}
+
+/// Returns whether a record is a CDS or CDNSKEY at the apex other than a delete request, and no DNSKEY
+/// there is of its algorithm.
 pub(crate) fn is_without_key<Z: ZoneRecords>(
     origin: &Name<&[u8]>,
     records: &Z,
     refused: &SortedSets<'_>,
+    place: usize,
     record: &ZoneRecord<'_>,
 ) -> bool
+    requires { IsRecordAt (Z.contents records.now) place «record».now }
     ensures { result ≡ lacks_key origin.now (Z.contents records.now) refused.now «record».now }
 {
-    matches!(record.data.rtype(), RecordType::CDS | RecordType::CDNSKEY)
+    is_for_parent(record)
         && !is_deletion(record)
-        && !has_set(records, refused, origin, RecordType::DNSKEY)
+        && is_same(&record.owner, origin)
+        && !lists_set(refused, &record.owner, RecordType::DNSKEY)
+        && !has_related(records, Relation::KeyOfAlgorithm, place, record)
+}
+
+/// Returns whether a record is a KEY, and its owner has a CNAME.
+pub(crate) fn is_key_beside_alias<Z: ZoneRecords>(
+    records: &Z,
+    place: usize,
+    record: &ZoneRecord<'_>,
+) -> bool
+    requires { IsRecordAt (Z.contents records.now) place «record».now }
+    ensures { result ≡ is_key_at_alias (Z.contents records.now) «record».now }
+{
+    record.data.rtype() == RecordType::KEY
+        && has_own_type(records, place, record, RecordType::CNAME)
 }
 
 /// Returns whether a record is a DS below the apex, and its owner has no NS.

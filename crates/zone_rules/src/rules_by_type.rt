@@ -6,7 +6,7 @@ use finding_codes::rule::Rule;
 use rdata_values::RecordType;
 
 /// The rules for records, in the order in which their findings are reported.
-const RECORD_RULES: [Rule; 34] = [
+const RECORD_RULES: [Rule; 36] = [
     rule!(Outside, 0),
     rule!(TwoSoas, 0),
     rule!(NsAddress, 0),
@@ -17,6 +17,7 @@ const RECORD_RULES: [Rule; 34] = [
     rule!(WildcardNs, 0),
     rule!(SoaNotApex, 0),
     rule!(NsBesideDname, 0),
+    rule!(KeyBesideCname, 0),
     rule!(Nsec3Wildcard, 0),
     rule!(Glue, 0),
     rule!(TargetCname, 0),
@@ -24,6 +25,7 @@ const RECORD_RULES: [Rule; 34] = [
     rule!(TargetMissing, 0),
     rule!(HostName, 0),
     rule!(Cds, 0),
+    rule!(CdsDelete, 0),
     rule!(DsWithoutNs, 0),
     rule!(NotAtApex, 0),
     rule!(KeyProtocol, 0),
