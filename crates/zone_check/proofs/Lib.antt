@@ -7,5 +7,6 @@ pub mod NameSteps
 pub mod OctetSteps
 pub mod ScanLanes
 pub mod TokenLists
+pub mod UnportableSteps
 pub mod WordSteps
 pub mod ZoneSteps

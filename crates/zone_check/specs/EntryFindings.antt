@@ -31,6 +31,7 @@ use Rattle.zone_check.specs.OctetFindings.{AreOctetFindings, is_control_z}
 use Rattle.zone_check.specs.RecordFindings.{AreRecordFindings}
 use Rattle.zone_check.specs.RejectionFindings.{IsFaultFinding, rejected_finding}
 use Rattle.zone_check.specs.TokensOf.{AreTokensOf, begins_with_blank}
+use Rattle.zone_check.specs.Unportable.{AreUnportableWords, unportable_directive}
 
 -- ---- its octets
 
@@ -131,10 +132,33 @@ abbrev pub AreGenerateFindings : (reports_slips : Bool) → List TokenSeen → (
 AreGenerateFindings true tokens before after = (f : Option EntryFinding) × IsGenerateFinding tokens f × (after ≡ before ++ option_to_list f)
 AreGenerateFindings false tokens before after = after ≡ before
 
+-- words that not every server reads are reported, but not in entries of `$GENERATE`, which only BIND reads
+abbrev pub reports_words : ReadEntry → EntryContext → Bool
+reports_words e c = c.reports_slips && not e.is_generated
+
+abbrev pub AreRecordWordFindings : (reports_words : Bool) → ReadEntry → EntryContext → RecordType → List EntryToken → (before after : List EntryFinding) → Type 0
+AreRecordWordFindings true e c rtype tokens before after = AreUnportableWords c.is_bare_name_reported rtype (begins_with_blank e.octets.now) tokens before after
+AreRecordWordFindings false e c rtype tokens before after = after ≡ before
+
+-- those of a record, and then those of its words that not every server reads
+abbrev pub AreOwnRecordFindings : ReadEntry → EntryContext → RecordRef → RecordTtl → List EntryToken → (before after : List EntryFinding) → Type 0
+AreOwnRecordFindings e c r ttl tokens before after =
+    (between : List EntryFinding) × AreFindingsOfRecord (is_reported_class r.class c) r ttl e.octets.now c tokens before between
+    × AreRecordWordFindings (reports_words e c) e c r.rtype tokens between after
+
+abbrev pub directive_name_finding : ReadEntry → EntryContext → List TokenSeen → Option EntryFinding
+directive_name_finding e c tokens = if reports_words e c then unportable_directive c.is_bare_name_reported tokens else None
+
+-- that of a directive, and then that of its name
+abbrev pub AreDirectiveFindings : ReadEntry → EntryContext → List EntryToken → (before after : List EntryFinding) → Type 0
+AreDirectiveFindings e c tokens before after =
+    (f : Option EntryFinding) × IsDirectiveFinding tokens f
+    × (after ≡ (before ++ option_to_list f) ++ option_to_list (directive_name_finding e c (map token_seen tokens)))
+
 -- those of the tokens of an entry
 abbrev pub AreTokenFindings : EntryKind → ReadEntry → EntryContext → List EntryToken → (before after : List EntryFinding) → Type 0
-AreTokenFindings Directive e c tokens before after = (f : Option EntryFinding) × IsDirectiveFinding tokens f × (after ≡ before ++ option_to_list f)
-AreTokenFindings (OneRecord ttl class rtype) e c tokens before after = AreFindingsOfRecord (is_reported_class class c) (record_in e ttl class rtype) ttl e.octets.now c tokens before after
+AreTokenFindings Directive e c tokens before after = AreDirectiveFindings e c tokens before after
+AreTokenFindings (OneRecord ttl class rtype) e c tokens before after = AreOwnRecordFindings e c (record_in e ttl class rtype) ttl tokens before after
 AreTokenFindings (Rejected error) e c tokens before after = after ≡ before ++ option_to_list (rejection_finding e.octets.now e.start error c (map token_seen tokens))
 AreTokenFindings Generate e c tokens before after = AreGenerateFindings c.reports_slips (map token_seen tokens) before after
 AreTokenFindings Blank e c tokens before after = after ≡ before

@@ -15,5 +15,6 @@ pub mod Rows
 pub mod RuleFindings
 pub mod Scan
 pub mod TokensOf
+pub mod Unportable
 pub mod ValueFindings
 pub mod ZoneFindings

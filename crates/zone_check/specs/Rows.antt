@@ -5,6 +5,7 @@ use Rattle.dns_lexer.specs.EntryTokens.{TokenSeen}
 use Rattle.dns_lexer.specs.Pieces.{comment_at, end_at, quote_at as quote_piece_at, word_at as word_piece_at}
 use Rattle.rdata.specs.Types.{type_shapes}
 use Rattle.rdata_values.specs.Rtype as Rtype
+use Rattle.rdata_values.specs.Types.{type_rows}
 use Rattle.zone_rules.specs.declared.rule.Finding.{Finding}
 use Rattle.zone_generate.specs.declared.format.NumberBase.TheVariants.{Nibbles}
 use Rattle.zone_generate.specs.declared.part.Part.{Part}
@@ -12,9 +13,10 @@ use Rattle.zone_generate.specs.declared.part.Part.TheVariants.{Number}
 use Rattle.zone_reader.specs.declared.ttl.RecordTtl.TheVariants.{Explicit, Minimum}
 use Rattle.finding_codes.specs.Rule.{coded_rule}
 use Rattle.finding_codes.specs.Table.{finding_rows, first_rows, later_rows, way_rows}
-use Rattle.finding_codes.specs.declared.code.Code.TheVariants.{AdjacentTokens, CaaTag, CnameLoop, CommentInData, ControlOctet, ControlZ, Data, Duplicate, GenerateDot, Glue, HighOctet, LeadingParenthesis, MaxEntry, MaxTtl, MissingDot, NaptrBoth, NaptrRegexp, NestedParentheses, NoFinalNewline, NoOrigin, NoOwner, Nul, ReverseName, SoaMail, SoaMinimumTtl, SoaTimers, SpfType, TargetAddress, Ttl, TtlDiffers, TxtWords, WildcardInside}
+use Rattle.finding_codes.specs.declared.code.Code.TheVariants.{AdjacentTokens, CaaTag, CnameLoop, CommentInData, ControlOctet, ControlZ, Data, Duplicate, GenerateDot, Glue, HighOctet, LeadingParenthesis, MaxEntry, MaxTtl, MissingDot, NaptrBoth, NaptrRegexp, NestedParentheses, NoFinalNewline, NoOrigin, NoOwner, Nul, ReverseName, SoaMail, SoaMinimumTtl, SoaTimers, SpfType, TargetAddress, Ttl, TtlDiffers, TxtWords, WildcardInside, Unportable}
 use Rattle.zone_check.specs.declared.entry.EntryKind.TheVariants.{Blank, OneRecord, TooLong}
 use Rattle.zone_check.specs.declared.finding.About.TheVariants.{Entry, Octets, Rejection, RuleAtToken, RuleOfRecord, Token}
+use Rattle.zone_check.specs.declared.finding.EntryFinding.{EntryFinding}
 use Rattle.zone_check.specs.declared.octet_findings.ReportedOctets.{ReportedOctets}
 use Rattle.zone_check.specs.declared.zone_findings.BrokenRule.{BrokenRule}
 use Rattle.zone_check.specs.Data.{has_ohttp_value}
@@ -29,6 +31,7 @@ use Rattle.zone_check.specs.RejectionFindings.{rejected_finding}
 use Rattle.zone_check.specs.RuleFindings.{rule_finding, rule_findings}
 use Rattle.zone_check.specs.Scan.{scan_of}
 use Rattle.zone_check.specs.TokensOf.{begins_with_blank}
+use Rattle.zone_check.specs.Unportable.{bare_octet, escaped_from, is_bare_name, unportable_findings}
 use Rattle.zone_check.specs.ValueFindings.{last_long_ttl, max_ttl_finding, minimum_finding}
 use Rattle.zone_check.specs.ZoneFindings.{is_reported_rule, reported_finding, without_repeats}
 
@@ -249,6 +252,46 @@ in_rdata = quoted_at 18 (codes "10 ${0,4,n}")
 dot_in_rdata : dot_finding in_rdata (of_name_field (Some Rtype.mx) (dot_part (record { first = 1; last = 2; step = 1 }) in_rdata)) ≡ Some (finding_at GenerateDot 22 8 Token)
 unfolding type_shapes digits
 dot_in_rdata = refl
+
+-- ---- words that not every server reads
+
+bare_name : bare_octet (codes "a=b") ≡ Some 61
+bare_name = refl
+
+escaped_name : bare_octet (codes "a\\=b") ≡ None
+escaped_name = refl
+
+usual_name : bare_octet (codes "_x.0/26.*") ≡ None
+usual_name = refl
+
+origin_sign : is_bare_name (codes "@") ≡ false
+origin_sign = refl
+
+written_name : escaped_from false (codes "Bob's\\032P") ≡ codes "Bob\\'s\\032P"
+written_name = refl
+
+abbrev unportable_at : (at width way : ℕ) → EntryFinding
+unportable_at at width way = finding_at Unportable at width (RuleAtToken (coded_rule Unportable way))
+
+owner_of_txt : unportable_findings false Rtype.txt (Some (word_at 0 (codes "a=b"))) (word_at 8 (codes "c=d") ∷ []) ≡ unportable_at 0 3 0 ∷ []
+unfolding type_shapes
+owner_of_txt = refl
+
+reported_name : unportable_findings true Rtype.txt (Some (word_at 0 (codes "a=b"))) (word_at 8 (codes "c=d") ∷ []) ≡ []
+unfolding type_shapes
+reported_name = refl
+
+type_in_bitmap : unportable_findings false Rtype.nsec (Some (word_at 0 (codes "x"))) (word_at 7 (codes "y") ∷ word_at 9 (codes "a") ∷ word_at 11 (codes "X25") ∷ word_at 15 (codes "TYPE19") ∷ []) ≡ unportable_at 11 3 5 ∷ []
+unfolding type_shapes type_rows
+type_in_bitmap = refl
+
+algorithm_of_ds : unportable_findings false Rtype.ds None (word_at 6 (codes "1") ∷ word_at 8 (codes "Ecc-Gost") ∷ []) ≡ unportable_at 8 8 1 ∷ []
+unfolding type_shapes
+algorithm_of_ds = refl
+
+key_of_https : unportable_findings false Rtype.https None (word_at 9 (codes "1") ∷ word_at 11 (codes "@") ∷ word_at 13 (codes "dohpath=/q") ∷ []) ≡ unportable_at 13 7 4 ∷ []
+unfolding type_shapes
+key_of_https = refl
 
 lint_of_tokens : entry_remarks (codes "a \"b" ++ 0 ∷ 1 ∷ 252 ∷ codes "\"\n" ++ 26 ∷ []) first_reached (Ok (word_piece_at 0 1) ∷ Ok (quote_piece_at 2 8) ∷ Ok (end_at 9 false) ∷ []) ≡ remark 4 Nul ∷ remark 6 HighOctet ∷ remark 5 ControlOctet ∷ remark 9 ControlZ ∷ []
 lint_of_tokens = refl

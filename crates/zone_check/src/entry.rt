@@ -58,6 +58,8 @@ pub struct EntryContext<'c> {
     pub reported: ReportedOctets,
     /// Whether CR LF was reported for its file.
     pub is_crlf_reported: bool,
+    /// Whether a name that Knot rejects was reported for its file.
+    pub is_bare_name_reported: bool,
     /// Text of the origin without its last dot, or empty if none is appended.
     pub origin: &'c [u8],
     /// What is known of the origin.

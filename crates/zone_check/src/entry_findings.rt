@@ -2,8 +2,8 @@
 ghost use Rattle.std.specs.Prelude.{◌≡◌, ◌++◌, OnOk, map};
 ghost use Rattle.std.specs.List.{list_any};
 ghost use Rattle.dns_lexer.specs.EntryTokens.{token_seen};
-ghost use Rattle.zone_check.specs.EntryFindings.{begins_with_octet, block_of, has_parameters, has_parameters_if_known, is_control_z_finding, is_directive, is_news, is_of_parameters, is_reported_class, is_scanned, long_finding, record_context, record_in, rejection_finding, reported_of, reports_crlf};
-ghost use Rattle.zone_check.specs.EntryFindings.{AreFindingsOfRecord, AreGenerateFindings, AreOwnOctetFindings, AreParsedFindings, AreReadFindings, AreTokenFindings, FindingsOfEntry};
+ghost use Rattle.zone_check.specs.EntryFindings.{begins_with_octet, block_of, directive_name_finding, has_parameters, has_parameters_if_known, is_control_z_finding, is_directive, is_news, is_of_parameters, is_reported_class, is_scanned, long_finding, record_context, record_in, rejection_finding, reported_of, reports_crlf, reports_words};
+ghost use Rattle.zone_check.specs.EntryFindings.{AreDirectiveFindings, AreFindingsOfRecord, AreGenerateFindings, AreOwnOctetFindings, AreOwnRecordFindings, AreParsedFindings, AreReadFindings, AreRecordWordFindings, AreTokenFindings, FindingsOfEntry};
 
 use crate::codes::code_of_entry;
 use crate::directive_findings::directive_finding;
@@ -15,6 +15,7 @@ use crate::lint::Block;
 use crate::octet_findings::{ReportedOctets, find_in_octets};
 use crate::record_findings::{RecordContext, find_in_record};
 use crate::rejection_findings::{fault_finding, rejected_finding};
+use crate::unportable::{find_unportable, unportable_directive};
 use crate::value_findings::append_any;
 use dns_lexer::entry_tokens::EntryToken;
 use finding_codes::code::Code;
@@ -279,6 +280,83 @@ fn find_in_generate(
     append_any(finding, found)
 }
 
+/// Returns whether words that not every server reads are reported: not in entries of `$GENERATE`,
+/// which only BIND reads.
+fn reports_words(entry: &ReadEntry<'_>, context: &EntryContext<'_>) -> bool
+    ensures { result ≡ reports_words entry.now context.now }
+{
+    context.reports_slips && !entry.is_generated
+}
+
+/// Appends the findings about the words of a record that not every server reads, if they are
+/// reported. Fails without memory.
+fn find_in_record_words(
+    entry: &ReadEntry<'_>,
+    context: &EntryContext<'_>,
+    rtype: RecordType,
+    tokens: &[EntryToken<'_>],
+    found: &mut Vec<EntryFinding>,
+) -> Result<(), AllocError>
+    ensures { OnOk result (AreRecordWordFindings (reports_words entry.now context.now) entry.now
+        context.now rtype tokens.now found.old.items found.new.items) }
+{
+    if !reports_words(entry, context) {
+        return Ok(());
+    }
+    let is_reported = context.is_bare_name_reported;
+    find_unportable(
+        is_reported,
+        rtype,
+        begins_blank(entry.octets),
+        tokens,
+        found,
+    )
+}
+
+/// Returns the finding about the name in a directive, if Knot rejects it and that is reported.
+fn directive_name_finding(
+    entry: &ReadEntry<'_>,
+    context: &EntryContext<'_>,
+    tokens: &[EntryToken<'_>],
+) -> Option<EntryFinding>
+    ensures { result ≡ directive_name_finding entry.now context.now (map token_seen tokens.now) }
+{
+    if !reports_words(entry, context) {
+        return None;
+    }
+    unportable_directive(context.is_bare_name_reported, tokens)
+}
+
+/// Appends the findings about a directive. Fails without memory.
+fn find_in_directive(
+    entry: &ReadEntry<'_>,
+    context: &EntryContext<'_>,
+    tokens: &[EntryToken<'_>],
+    found: &mut Vec<EntryFinding>,
+) -> Result<(), AllocError>
+    ensures { OnOk result (AreDirectiveFindings entry.now context.now tokens.now
+        found.old.items found.new.items) }
+{
+    append_any(directive_finding(tokens), found)?;
+    append_any(directive_name_finding(entry, context, tokens), found)
+}
+
+/// Appends the findings about the tokens of a record. Fails without memory.
+fn find_in_own_record(
+    entry: &ReadEntry<'_>,
+    context: &EntryContext<'_>,
+    record: &RecordRef<'_>,
+    ttl: RecordTtl,
+    tokens: &[EntryToken<'_>],
+    found: &mut Vec<EntryFinding>,
+) -> Result<(), AllocError>
+    ensures { OnOk result (AreOwnRecordFindings entry.now context.now «record».now ttl tokens.now
+        found.old.items found.new.items) }
+{
+    find_in_one_record(record, ttl, entry.octets, context, tokens, found)?;
+    find_in_record_words(entry, context, record.rtype, tokens, found)
+}
+
 /// Appends the findings about the tokens of an entry. Fails without memory.
 fn find_in_tokens(
     alloc: Global,
@@ -292,10 +370,10 @@ fn find_in_tokens(
 {
     let octets = entry.octets;
     match entry.kind {
-        EntryKind::Directive => append_any(directive_finding(tokens), found),
+        EntryKind::Directive => find_in_directive(entry, context, tokens, found),
         EntryKind::OneRecord { ttl, class, rtype } => {
             let one = record_in(entry, ttl, class, rtype);
-            find_in_one_record(&one, ttl, octets, context, tokens, found)
+            find_in_own_record(entry, context, &one, ttl, tokens, found)
         }
         EntryKind::Rejected(error) => append_any(
             rejection_finding(octets, entry.start, error, context, tokens),

@@ -19,5 +19,6 @@ pub mod record_findings;
 pub mod rejection_findings;
 pub mod rule_findings;
 pub mod scan;
+pub mod unportable;
 pub mod value_findings;
 pub mod zone_findings;
