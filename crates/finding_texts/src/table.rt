@@ -61,7 +61,7 @@ pub fn summary_of(code: Code) -> &'static str {
         Code::TargetCname => "The target of a record is an alias",
         Code::TargetMissing => "The target of a record is not in the zone",
         Code::HostName => "A name that must be that of a host is not",
-        Code::Cds => "The zone has a CDS or CDNSKEY, and no DNSKEY at its apex",
+        Code::Cds => "A CDS or CDNSKEY is of an algorithm of which the apex has no DNSKEY",
         Code::TtlDiffers => "The TTLs of an RRset differ",
         Code::Duplicate => "A record occurs twice",
         Code::NotAtApex => "A record of this type belongs at the apex",
@@ -135,7 +135,7 @@ pub fn summary_of(code: Code) -> &'static str {
         Code::CdsDiffers => "The CDS and the CDNSKEY of the apex are not of the same keys",
         Code::UnsignedApex =>
             "A zone has a DNSKEY and signatures, but no signature of SOA or NS at its apex",
-        Code::Unportable => "A name server rejects a word of the record",
+        Code::Unportable => "A word is one that not every name server reads",
         Code::KeyBesideCname => "A KEY is at the owner of a CNAME",
         Code::SpfUnused => "An SPF record has a mechanism after all, or a redirect beside it",
         Code::SpfLookups => "An SPF record, with those it includes, needs more than 10 look-ups",
@@ -225,7 +225,7 @@ pub fn text_of(code: Code) -> &'static str {
             "DNS gives these octets no characters. Write a domain name in its ASCII form (IDNA, RFC 5891), and other octets as \\DDD (RFC 1035 section 5.1).",
         Code::ControlOctet => "Write it as \\DDD, or remove it (RFC 1035 section 5.1).",
         Code::Crlf =>
-            "Name servers read it, while scripts may keep the CR. It is reported once for each file. zonetext fmt writes LF.",
+            "Knot rejects the file, and scripts may keep the CR. It is reported once for each file. zonetext fmt writes LF.",
         Code::NestedParentheses =>
             "Some name servers reject it. One pair is enough for an entry (RFC 1035 section 5.1).",
         Code::LeadingParenthesis =>
@@ -259,7 +259,7 @@ pub fn text_of(code: Code) -> &'static str {
         Code::HostName =>
             "Labels of host names are letters, digits and hyphens, without a hyphen at their ends (RFC 952, RFC 1123 section 2.1). Owners of A, AAAA and MX, and names in NS, MX, SRV, SOA and reverse PTR records are host names. named refuses them.",
         Code::Cds =>
-            "They ask the parent for DS records, by which the zone could not be validated (RFC 7344 section 4.1).",
+            "It asks the parent for a DS record, by which the zone could not be validated (RFC 7344 section 4.1). named rejects the zone.",
         Code::TtlDiffers =>
             "The records of one owner, class and type have one TTL (RFC 2181 section 5.2). Name servers use that of the first record, or the least.",
         Code::Duplicate =>
@@ -387,9 +387,9 @@ pub fn text_of(code: Code) -> &'static str {
         Code::UnsignedApex =>
             "A zone counts as signed if an RRSIG at its apex covers SOA or NS, so the rules of signed zones were not checked. Sign the whole zone, or remove what is left of signatures.",
         Code::Unportable =>
-            "The zone can't be moved to a server that rejects the word, nor be transferred by text between servers. Write it as the help says: every server reads that.",
+            "BIND, Knot, NSD or ldns rejects the file for it. Knot reads the octets !#$%&'+,:<=>?@[]^`{|}~ in a name only after a backslash: this is reported for the first such name of a file. Some names of algorithms, of types in bitmaps and RRSIG, and of service parameters are read by some servers only. The help has what every server reads.",
         Code::KeyBesideCname =>
-            "RFC 4035 section 2.5 allows a KEY beside a CNAME and BIND loads it. Knot, NSD and ldns reject it. Move one of them.",
+            "RFC 4035 section 2.5 allows it, and BIND loads the zone. Knot, NSD and ldns reject it. Write one of the two at another name.",
         Code::SpfUnused =>
             "Mechanisms are tried in order, and all matches every sender, so those after it have no effect (RFC 7208 section 5.1). A redirect is ignored if the record has all (section 6.1). Move all to the end.",
         Code::SpfLookups =>
@@ -563,7 +563,8 @@ pub fn example_of(code: Code) -> &'static str {
         Code::SvcbAlias => "a HTTPS 0 o. alpn=h2",
         Code::CdsKey =>
             "@ CDS 1 13 2 ABABABABABABABABABABABABABABABABABABABABABABABABABABABABABABABAB",
-        Code::CdsDiffers => "@ CDNSKEY 257 3 13 AQID",
+        Code::CdsDiffers =>
+            "@ CDS 1 13 2 ABABABABABABABABABABABABABABABABABABABABABABABABABABABABABABABAB\n@ CDNSKEY 257 3 13 AQID",
         Code::UnsignedApex =>
             "@ DNSKEY 257 3 13 AQID\na RRSIG A 13 2 60 20260601000000 20251201000000 1 example. AQID",
         Code::Unportable => "a=b TXT x",
