@@ -13,7 +13,7 @@ use Rattle.zone_rules.specs.Zones.{as_listed}
 use Rattle.zone_rules.proofs.Steps.{flat_map_one}
 use Rattle.zone_dnssec.specs.OwnedRecords.{find_owned, has_owned, is_owned_wanted, is_wanted_record, is_wanted_in, FindsWithin}
 use Rattle.zone_dnssec.specs.declared.owned.Wanted.{Wanted}
-use Rattle.zone_dnssec.specs.declared.owned.Wanted.TheVariants.{Soa, Signature, FittingSignature, Ttl, Unlisted, KeyRequest, Chain, MoreThanHashes, ValidSignature, SignatureBy, KeyWith}
+use Rattle.zone_dnssec.specs.declared.owned.Wanted.TheVariants.{Soa, Signature, FittingSignature, Ttl, Unlisted, RequestOf, Request, RequestNamed, Chain, MoreThanHashes, ValidSignature, SignatureBy, KeyWith}
 use Rattle.zone_dnssec.proofs.ChainLinks.{get_some}
 
 pub some_is : {X : Type 0} {x y : X} → Some x ≡ Some y → x ≡ y
@@ -37,7 +37,9 @@ listed_wanted R S (Signature rtype) r = refl
 listed_wanted R S (FittingSignature keys rtype) r = refl
 listed_wanted R S (Ttl rtype ttl) r = refl
 listed_wanted R S (Unlisted bitmap is_cut) r = refl
-listed_wanted R S KeyRequest r = refl
+listed_wanted R S (RequestOf keys rtype) r = refl
+listed_wanted R S (Request rtype) r = refl
+listed_wanted R S (RequestNamed name rtype) r = refl
 listed_wanted R S Chain r = refl
 listed_wanted R S MoreThanHashes r = refl
 listed_wanted R S (ValidSignature keys rtype) r = refl

@@ -8,7 +8,7 @@ use Rattle.zone_dnssec.specs.SecurityFindings.{breaks_security, breaks_security_
 use Rattle.zone_dnssec.specs.Subjects.{IsSignedSubject}
 use Rattle.zone_dnssec.specs.ZoneViews.{ZoneView, zone_with}
 use Rattle.finding_codes.specs.declared.code.Code.{Code}
-use Rattle.finding_codes.specs.declared.code.Code.TheVariants.{Expired, ExpiresSoon, NotYetValid, RrsigTimes, RrsigSigner, RrsigLabels, RrsigLength, OriginalTtl, RrsigTtl, Unsigned, NoKey, KeyMissing, RrsigKey, RrsigAlgorithm, KeyLength, SignsNothing, OccludedDnssec, NoNsec, NsecNext, NsecTypes, NoNsec3, Nsec3Next, Nsec3Types, Nsec3Owner, Nsec3Iterations, Nsec3Iterations50, Nsec3Iterations0, NsecTtl, Nsec3Extra, OptOut, CdsDelete}
+use Rattle.finding_codes.specs.declared.code.Code.TheVariants.{Expired, ExpiresSoon, NotYetValid, RrsigTimes, RrsigSigner, RrsigLabels, RrsigLength, OriginalTtl, RrsigTtl, Unsigned, NoKey, KeyMissing, RrsigKey, RrsigAlgorithm, KeyLength, SignsNothing, OccludedDnssec, NoNsec, NsecNext, NsecTypes, NoNsec3, Nsec3Next, Nsec3Types, Nsec3Owner, Nsec3Iterations, Nsec3Iterations50, Nsec3Iterations0, NsecTtl, Nsec3Extra, OptOut, CdsKey, CdsDiffers}
 use Rattle.zone_dnssec.specs.declared.subject.Subject.{Subject}
 use Rattle.zone_dnssec.specs.declared.times.Times.{Times}
 
@@ -53,7 +53,10 @@ security_listed R S Nsec3Iterations0 zone times before r = refl
 security_listed R S NsecTtl zone times before r = refl
 security_listed R S Nsec3Extra zone times before r = refl
 security_listed R S OptOut zone times before r = refl
-security_listed R S CdsDelete zone times before r = refl
+security_listed R S CdsKey zone times None r = refl
+security_listed R S CdsKey zone times (Some b) r = refl
+security_listed R S CdsDiffers zone times None r = refl
+security_listed R S CdsDiffers zone times (Some b) r = refl
 security_listed R S _ zone times before r = refl
 
 security_in : {N O R S : Type 0} (rule : Code) (zone : ZoneView N O) (times : Times) (before : Option (Record R S)) (found : Record R S) (place : ℕ) (o : Option (Record N O)) → Some found ≡ option_map as_listed o

@@ -1,12 +1,12 @@
 pub mod ChainCounts
 pub mod ChainFaults
 pub mod ChainLinks
-pub mod DeleteForms
 pub mod DenialRecords
 pub mod HashedLinks
 pub mod HashedNames
 pub mod KeyLengths
 pub mod Nsec3Chain
+pub mod KeyRequests
 pub mod NsecChain
 pub mod NsecTypes
 pub mod OptOutFlags

@@ -6,7 +6,7 @@ use Rattle.dns_wire.specs.Order.{same_name}
 use Rattle.rdata_values.specs.Rtype as Rtype
 use Rattle.zone_record.specs.declared.record.Record.{Record}
 use Rattle.zone_rules.specs.Zones.{type_of}
-use Rattle.zone_dnssec.specs.DeleteForms.{asks_for_key}
+use Rattle.zone_dnssec.specs.KeyRequests.{is_request_named, is_request_of, is_request_type}
 use Rattle.zone_dnssec.specs.NsecChain.{is_hashed_denial}
 use Rattle.zone_dnssec.specs.NsecTypes.{is_unlisted}
 use Rattle.zone_dnssec.specs.Parameters.{names_chain}
@@ -14,7 +14,7 @@ use Rattle.zone_dnssec.specs.SignedSets.{covers}
 use Rattle.zone_dnssec.specs.SigningAlgorithms.{covers_by, is_key_with, validly_covers}
 use Rattle.zone_dnssec.specs.ZoneKeys.{fits_key}
 use Rattle.zone_dnssec.specs.declared.owned.Wanted.{Wanted}
-use Rattle.zone_dnssec.specs.declared.owned.Wanted.TheVariants.{Soa, Signature, FittingSignature, Ttl, Unlisted, KeyRequest, Chain, MoreThanHashes, ValidSignature, SignatureBy, KeyWith}
+use Rattle.zone_dnssec.specs.declared.owned.Wanted.TheVariants.{Soa, Signature, FittingSignature, Ttl, Unlisted, RequestOf, Request, RequestNamed, Chain, MoreThanHashes, ValidSignature, SignatureBy, KeyWith}
 
 -- the greater of two indexes
 abbrev pub greater_of : ℕ → ℕ → ℕ
@@ -27,7 +27,9 @@ is_wanted_record (Signature rtype) r = covers rtype r
 is_wanted_record (FittingSignature keys rtype) r = covers rtype r && fits_key keys.now r
 is_wanted_record (Ttl rtype ttl) r = type_of r == rtype && r.ttl == ttl
 is_wanted_record (Unlisted bitmap is_cut) r = is_unlisted is_cut bitmap.now r
-is_wanted_record KeyRequest r = asks_for_key r
+is_wanted_record (RequestOf keys rtype) r = is_request_of keys.now rtype r
+is_wanted_record (Request rtype) r = is_request_type rtype r
+is_wanted_record (RequestNamed name rtype) r = is_request_named name rtype r
 is_wanted_record Chain r = names_chain r
 is_wanted_record MoreThanHashes r = not (is_hashed_denial r)
 is_wanted_record (ValidSignature keys rtype) r = validly_covers keys.now rtype r

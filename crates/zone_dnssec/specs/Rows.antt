@@ -7,9 +7,9 @@ use Rattle.rdata.specs.Types.{type_shapes}
 use Rattle.dns_wire.specs.Wire.{wire}
 use Rattle.zone_dnssec.specs.ChainFaults.{either_faults, faults_with}
 use Rattle.zone_dnssec.specs.ChainLinks.{link_below, link_places, places_where}
-use Rattle.zone_dnssec.specs.DeleteForms.{asks_for_key, is_delete_form}
 use Rattle.zone_dnssec.specs.DenialRecords.{begins_with_hash, is_child, is_occluded}
 use Rattle.zone_dnssec.specs.KeyLengths.{has_key_length}
+use Rattle.zone_dnssec.specs.KeyRequests.{asks_for_key, is_request_of, requests_differ}
 use Rattle.zone_dnssec.specs.NsecChain.{comes_after, next_name}
 use Rattle.zone_dnssec.specs.Nsec3Chain.{link_after, link_before}
 use Rattle.zone_dnssec.specs.NsecTypes.{is_unlisted, may_be_listed}
@@ -22,6 +22,7 @@ use Rattle.zone_dnssec.specs.SigningAlgorithms.{signer_with, signs_keys_alone}
 use Rattle.zone_dnssec.specs.UnmatchedLinks.{shows_name}
 use Rattle.zone_dnssec.specs.ZoneKeys.{modulus, modulus_tag, sum_tag}
 use Rattle.zone_dnssec.specs.ZoneViews.{zone_with}
+use Rattle.zone_dnssec.specs.declared.keys.Key.{Key}
 
 -- ---- times: after 4294967295 comes 0 (RFC 1982 section 3.1)
 
@@ -179,16 +180,32 @@ child_row = refl
 grandchild_row : is_child (codes "ns" ∷ sub) origin ≡ false
 grandchild_row = refl
 
--- ---- forms that ask to delete (RFC 8078 section 4)
+-- ---- requests for DS of keys (RFC 7344): a CDS has key tag and algorithm before its digest
 
-delete_row : is_delete_form (at origin Rtype.cds (0 ∷ 0 ∷ 0 ∷ 0 ∷ 0 ∷ [])) ≡ true
+abbrev own_key : Key
+own_key = record { tag = 258; algorithm = 8; is_revoked = false; modulus_len = 0 }
+
+own_cds_row : is_request_of (own_key ∷ []) Rtype.cds (at origin Rtype.cds (1 ∷ 2 ∷ 8 ∷ 2 ∷ 1 ∷ [])) ≡ true
+own_cds_row = refl
+
+other_cds_row : is_request_of (own_key ∷ []) Rtype.cds (at origin Rtype.cds (1 ∷ 3 ∷ 8 ∷ 2 ∷ 1 ∷ [])) ≡ false
+other_cds_row = refl
+
+delete_row : asks_for_key (at origin Rtype.cds (0 ∷ 0 ∷ 0 ∷ 0 ∷ 0 ∷ [])) ≡ false
 delete_row = refl
 
-key_delete_row : is_delete_form (at origin Rtype.cdnskey (0 ∷ 0 ∷ 3 ∷ 0 ∷ 0 ∷ [])) ≡ true
+key_delete_row : asks_for_key (at origin Rtype.cdnskey (0 ∷ 0 ∷ 3 ∷ 0 ∷ 0 ∷ [])) ≡ false
 key_delete_row = refl
 
-key_row : asks_for_key (at origin Rtype.cdnskey (1 ∷ 1 ∷ 3 ∷ 8 ∷ 1 ∷ [])) ≡ true
-key_row = refl
+-- a CDNSKEY of the key tag 1033, with a CDS of it, and with another
+abbrev its_key : Record ℕ ℕ
+its_key = at origin Rtype.cdnskey (1 ∷ 1 ∷ 3 ∷ 8 ∷ 0 ∷ [])
+
+same_keys_row : requests_differ origin (at origin Rtype.cds (4 ∷ 9 ∷ 8 ∷ 2 ∷ 1 ∷ []) ∷ its_key ∷ []) None (at origin Rtype.cds (4 ∷ 9 ∷ 8 ∷ 2 ∷ 1 ∷ [])) ≡ false
+same_keys_row = refl
+
+other_keys_row : requests_differ origin (at origin Rtype.cds (4 ∷ 8 ∷ 8 ∷ 2 ∷ 1 ∷ []) ∷ its_key ∷ []) None (at origin Rtype.cds (4 ∷ 8 ∷ 8 ∷ 2 ∷ 1 ∷ [])) ≡ true
+other_keys_row = refl
 
 -- ---- indexes of items, and of the NSEC3 records of a chain
 

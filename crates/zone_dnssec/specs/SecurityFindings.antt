@@ -5,10 +5,10 @@ use Rattle.std.specs.Option.{option_map_or}
 use Rattle.rdata_values.specs.Rtype as Rtype
 use Rattle.zone_record.specs.declared.record.Record.{Record}
 use Rattle.zone_rules.specs.Zones.{has_type_at, record_before}
-use Rattle.zone_dnssec.specs.DeleteForms.{deletes_beside_keys}
 use Rattle.zone_dnssec.specs.DenialRecords.{denial_ttl, has_other_denial_ttl, has_other_link_owner, is_occluded, iterates_within}
 use Rattle.zone_dnssec.specs.HashedLinks.{fails_chain, names_other_hash}
 use Rattle.zone_dnssec.specs.KeyLengths.{has_other_key_length, has_other_signature_length}
+use Rattle.zone_dnssec.specs.KeyRequests.{asks_for_other_keys, requests_differ}
 use Rattle.zone_dnssec.specs.NsecChain.{lacks_nsec, names_other_next}
 use Rattle.zone_dnssec.specs.NsecTypes.{lists_other_types}
 use Rattle.zone_dnssec.specs.OptOutFlags.{has_own_flag}
@@ -22,7 +22,7 @@ use Rattle.zone_dnssec.specs.ZoneViews.{ZoneView, zone_with}
 use Rattle.zone_dnssec.specs.declared.hashed.LinkFault.TheVariants.{Missing, DifferentTypes}
 use Rattle.zone_dnssec.specs.declared.rule.SecurityFinding.{SecurityFinding}
 use Rattle.finding_codes.specs.declared.code.Code.{Code}
-use Rattle.finding_codes.specs.declared.code.Code.TheVariants.{Expired, ExpiresSoon, NotYetValid, RrsigTimes, RrsigSigner, RrsigLabels, RrsigLength, OriginalTtl, RrsigTtl, Unsigned, NoKey, KeyMissing, RrsigKey, RrsigAlgorithm, KeyLength, SignsNothing, OccludedDnssec, NoNsec, NsecNext, NsecTypes, NoNsec3, Nsec3Next, Nsec3Types, Nsec3Owner, Nsec3Iterations, Nsec3Iterations50, Nsec3Iterations0, NsecTtl, Nsec3Extra, OptOut, CdsDelete}
+use Rattle.finding_codes.specs.declared.code.Code.TheVariants.{Expired, ExpiresSoon, NotYetValid, RrsigTimes, RrsigSigner, RrsigLabels, RrsigLength, OriginalTtl, RrsigTtl, Unsigned, NoKey, KeyMissing, RrsigKey, RrsigAlgorithm, KeyLength, SignsNothing, OccludedDnssec, NoNsec, NsecNext, NsecTypes, NoNsec3, Nsec3Next, Nsec3Types, Nsec3Owner, Nsec3Iterations, Nsec3Iterations50, Nsec3Iterations0, NsecTtl, Nsec3Extra, OptOut, CdsKey, CdsDiffers}
 use Rattle.zone_dnssec.specs.declared.times.Times.{Times}
 
 -- whether a record breaks a rule, which the code of a finding names, beside the one before it
@@ -57,7 +57,8 @@ breaks_security Nsec3Iterations0 zone times before r = iterates_within 0 50 zone
 breaks_security NsecTtl zone times before r = has_other_denial_ttl (denial_ttl zone.origin zone.records) r
 breaks_security Nsec3Extra zone times before r = matches_no_name zone r
 breaks_security OptOut zone times before r = has_own_flag zone r
-breaks_security CdsDelete zone times before r = deletes_beside_keys zone.origin zone.records r
+breaks_security CdsKey zone times before r = asks_for_other_keys (zone_keys zone.origin zone.records) zone.origin zone.records before r
+breaks_security CdsDiffers zone times before r = requests_differ zone.origin zone.records before r
 breaks_security _ zone times before r = false
 
 -- a finding of a rule, if the rule is broken
@@ -67,7 +68,7 @@ insecure_if is_broken rule place = if is_broken then record { rule = rule; «rec
 -- the rules, in the order in which their findings are reported
 abbrev pub security_rules : List Code
 security_rules =
-    Expired ∷ ExpiresSoon ∷ NotYetValid ∷ RrsigTimes ∷ RrsigSigner ∷ RrsigLabels ∷ RrsigLength ∷ OriginalTtl ∷ RrsigTtl ∷ Unsigned ∷ NoKey ∷ KeyMissing ∷ RrsigKey ∷ RrsigAlgorithm ∷ KeyLength ∷ SignsNothing ∷ OccludedDnssec ∷ NoNsec ∷ NsecNext ∷ NsecTypes ∷ NoNsec3 ∷ Nsec3Next ∷ Nsec3Types ∷ Nsec3Owner ∷ Nsec3Iterations ∷ Nsec3Iterations50 ∷ Nsec3Iterations0 ∷ NsecTtl ∷ Nsec3Extra ∷ OptOut ∷ CdsDelete ∷ []
+    Expired ∷ ExpiresSoon ∷ NotYetValid ∷ RrsigTimes ∷ RrsigSigner ∷ RrsigLabels ∷ RrsigLength ∷ OriginalTtl ∷ RrsigTtl ∷ Unsigned ∷ NoKey ∷ KeyMissing ∷ RrsigKey ∷ RrsigAlgorithm ∷ KeyLength ∷ SignsNothing ∷ OccludedDnssec ∷ NoNsec ∷ NsecNext ∷ NsecTypes ∷ NoNsec3 ∷ Nsec3Next ∷ Nsec3Types ∷ Nsec3Owner ∷ Nsec3Iterations ∷ Nsec3Iterations50 ∷ Nsec3Iterations0 ∷ NsecTtl ∷ Nsec3Extra ∷ OptOut ∷ CdsKey ∷ CdsDiffers ∷ []
 
 -- the record at an index breaks the rule
 abbrev pub breaks_security_at : {N O : Type 0} → ZoneView N O → Times → ℕ → Code → Bool

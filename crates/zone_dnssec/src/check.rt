@@ -9,7 +9,6 @@ ghost use Rattle.zone_dnssec.specs.ZoneViews.{zone_with};
 use crate::algorithms::{Signer, is_of_lone_algorithm, lacks_algorithm, signers_of};
 use crate::bitmaps::has_wrong_types;
 use crate::chain::{has_chain, is_without_nsec};
-use crate::deletes::is_delete_beside_keys;
 use crate::denial::{
     has_iterations, has_wrong_denial_ttl, has_wrong_owner, is_out_of_place, ttl_of_denial,
 };
@@ -18,6 +17,7 @@ use crate::hashed::MOST_ITERATIONS;
 use crate::keys::{Key, is_of_revoked_key, is_of_unknown_key, is_without_key, keys_at_apex};
 use crate::lengths::{has_other_key_length, has_other_signature_length};
 use crate::links::has_wrong_next;
+use crate::requests::{has_differing_requests, is_for_other_keys};
 use crate::rule::SecurityFinding;
 use crate::sets::{KnownOwner, covers_some_set, is_unsigned, is_without_set, owner_facts_once};
 use crate::signatures::{
@@ -35,7 +35,7 @@ use zone_rules::names::view;
 use zone_rules::zone_records::OwnerBuffer;
 
 /// The rules, in the order in which their findings are reported.
-const SECURITY_RULES: [Code; 31] = [
+const SECURITY_RULES: [Code; 32] = [
     Code::Expired,
     Code::ExpiresSoon,
     Code::NotYetValid,
@@ -66,7 +66,8 @@ const SECURITY_RULES: [Code; 31] = [
     Code::NsecTtl,
     Code::Nsec3Extra,
     Code::OptOut,
-    Code::CdsDelete,
+    Code::CdsKey,
+    Code::CdsDiffers,
 ];
 
 /// Greatest number of iterations with which newer validators, too, treat a zone as signed.
@@ -131,7 +132,8 @@ fn breaks_rule<Z: ZoneRecords>(
         Code::NsecTtl => has_wrong_denial_ttl(facts.denial_ttl, record),
         Code::Nsec3Extra => subject.faults.is_unmatched,
         Code::OptOut => subject.faults.has_lone_flag,
-        Code::CdsDelete => is_delete_beside_keys(origin, records, record),
+        Code::CdsKey => is_for_other_keys(facts.keys, origin, records, subject),
+        Code::CdsDiffers => has_differing_requests(origin, records, subject),
         _ => false,
     }
 }

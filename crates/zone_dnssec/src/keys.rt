@@ -125,7 +125,7 @@ fn key_tag(algorithm: u8, octets: &[u8], key: &[u8]) -> Option<u16>
 }
 
 /// Returns the key in DNSKEY data with the Zone flag and protocol 3, and else `None`.
-fn key_in(octets: &[u8]) -> Option<Key>
+pub(crate) fn key_in(octets: &[u8]) -> Option<Key>
     requires { length octets.now ≤ 65535 }
     ensures { result ≡ key_in octets.now }
 {

@@ -7,9 +7,9 @@ ghost use Rattle.zone_rules.specs.Zones.{has_owner};
 use crate::algorithms::{covers_by, is_key_with, validly_covers};
 use crate::bitmaps::is_unlisted;
 use crate::chain::is_hashed_denial;
-use crate::deletes::is_for_key;
 use crate::keys::{Key, is_fitting};
 use crate::nsec3::is_chain;
+use crate::requests::{KeyName, is_request, is_request_named, is_request_of};
 use crate::sets::is_signature_of;
 use crate::signatures::has_type_and_ttl;
 use crate::subject::Subject;
@@ -32,8 +32,12 @@ pub enum Wanted<'k> {
     /// A record of which a bitmap must list the type, and doesn't, at a name that is a delegation or
     /// not.
     Unlisted(&'k [u8], bool),
-    /// A CDS or CDNSKEY that does not ask to delete.
-    KeyRequest,
+    /// A CDS or CDNSKEY that asks for one of some keys.
+    RequestOf(&'k [Key], RecordType),
+    /// A CDS or CDNSKEY that asks for a key.
+    Request(RecordType),
+    /// One that asks for this key.
+    RequestNamed(KeyName, RecordType),
     /// An NSEC3PARAM that names a chain.
     Chain,
     /// Neither an NSEC3 nor a signature of NSEC3s.
@@ -56,7 +60,9 @@ fn is_wanted(wanted: &Wanted<'_>, record: &ZoneRecord<'_>) -> bool
         Wanted::FittingSignature(keys, rtype) => is_fitting(keys, record, rtype),
         Wanted::Ttl(rtype, ttl) => has_type_and_ttl(record, rtype, ttl),
         Wanted::Unlisted(bitmap, is_cut) => is_unlisted(bitmap, is_cut, record),
-        Wanted::KeyRequest => is_for_key(record),
+        Wanted::RequestOf(keys, rtype) => is_request_of(keys, rtype, record),
+        Wanted::Request(rtype) => is_request(rtype, record),
+        Wanted::RequestNamed(name, rtype) => is_request_named(name, rtype, record),
         Wanted::Chain => is_chain(record),
         Wanted::MoreThanHashes => !is_hashed_denial(record),
         Wanted::ValidSignature(keys, rtype) => validly_covers(keys, rtype, record),
