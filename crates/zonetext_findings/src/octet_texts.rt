@@ -56,6 +56,24 @@ pub fn escape_text(alloc: Global, escape: &[u8]) -> Result<Text, AllocError> {
     Text::worded(alloc, text_of(&message), None)
 }
 
+/// What to write instead of a CR that is not part of a line's end.
+const RETURN_HELP: &str = "write LF, or \\013 in a string";
+
+/// Returns the escape to write for an octet after a backslash, at an offset or after it, if the octet is a
+/// tab or outside of ASCII: names and strings may have any octet as such an escape.
+fn escape_help(alloc: Global, octets: &[u8], at: usize) -> Result<String, AllocError> {
+    let found = match octets.get(at..).unwrap_or(&[]) {
+        [b'\\', octet, ..] => *octet,
+        [octet, ..] => *octet,
+        [] => 0,
+    };
+    if found != b'\t' && found < 0x80 {
+        return Ok(String::new(alloc));
+    }
+    let (hundreds, tens, ones) = (found / 100, found / 10 % 10, found % 10);
+    format!(in alloc; "write \\{hundreds}{tens}{ones}")
+}
+
 /// Returns the location and the text of a syntax error.
 pub fn fault_text<'e>(
     alloc: Global,
@@ -65,6 +83,11 @@ pub fn fault_text<'e>(
     let spot = fault_at(entry, fault);
     match fault.wrong {
         Wrong::OpenParenthesis => Ok((spot, open_text(alloc, entry, fault)?)),
+        Wrong::LoneReturn => {
+            let text = plain_fault(alloc, fault)?;
+            let help = String::from_str(alloc, RETURN_HELP)?;
+            Ok((spot, Text { help, ..text }))
+        }
         Wrong::BadEscape => {
             let at = fault.at.saturating_sub(entry.offset);
             match high_escape_at(entry.held, at) {
@@ -73,7 +96,11 @@ pub fn fault_text<'e>(
                     let text = escape_text(alloc, escape.unwrap_or(&[]))?;
                     Ok((part_at(entry, start, ESCAPE), text))
                 }
-                None => Ok((spot, plain_fault(alloc, fault)?)),
+                None => {
+                    let text = plain_fault(alloc, fault)?;
+                    let help = escape_help(alloc, entry.held, at)?;
+                    Ok((spot, Text { help, ..text }))
+                }
             }
         }
         _ => Ok((spot, plain_fault(alloc, fault)?)),

@@ -36,6 +36,7 @@ fn rank_of(code: Code) -> Option<WordRank> {
         Code::SoaMail => (1, 1),
         Code::HostName => (1, 2),
         Code::HighOctet => (1, 3),
+        Code::Unportable => (1, 4),
         _ => return None,
     };
     Some(WordRank { group, rank })
