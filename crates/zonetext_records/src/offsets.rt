@@ -290,7 +290,9 @@ impl<'f> OffsetFinder<'f> {
             let (at, is_last) = (self.held.at(), self.held.is_last);
             let max_entry = self.options.max_entry;
             let rest = self.held.rest();
-            let passed = self.finder.pass_entries(rest, at, is_last, max_entry, &mut self.data);
+            let passed = self
+                .finder
+                .pass_entries(rest, at, is_last, max_entry, &mut self.data);
             self.held.next = self.held.next.saturating_add(passed.count);
             match passed.stop {
                 PassStop::Entry => {}
