@@ -60,7 +60,8 @@ static void record_data(void) {
     REFUSES_DATA("10 mail 5", DNSTEXT_BAD_DATA, 8, "MX: unexpected token behind the data");
     REFUSES_DATA("( 10 mail\n5 )", DNSTEXT_BAD_DATA, 10, "MX: unexpected token behind the data");
     REFUSES_DATA("10 mail\n5", DNSTEXT_BAD_DATA, 8, "MX: the data end at the end of the line");
-    REFUSES_DATA("\n(10\nmail) ; first\n\n\"5\"", DNSTEXT_BAD_DATA, 20, "MX: the data end at the end of the line");
+    REFUSES_DATA("\n(10\nmail) ; first\n\n\"5\"", DNSTEXT_BAD_DATA, 20,
+                 "MX: the data end at the end of the line");
     REFUSES_DATA("10 (mail", DNSTEXT_OPEN_PARENTHESIS, 8, "");
     REFUSES_DATA("10 mail\n)", DNSTEXT_CLOSING, 8, "");
     REFUSES(print_data, "\0\12\4mail", DNSTEXT_BAD_DATA, 0);
