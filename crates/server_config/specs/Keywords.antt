@@ -2,13 +2,19 @@
 use Rattle.std.specs.Prelude.{ℕ, Bool, ◌||◌, if◌then◌else◌, List, codes, Option, None, Some}
 use Rattle.dns_octets.specs.Lowered.{same_lowered}
 use Rattle.server_config.specs.declared.keyword.Keyword.{Keyword}
-use Rattle.server_config.specs.declared.keyword.Keyword.TheVariants.{CheckNames, Database, Directory, File, Format, InView, Include, MaxTtl, Options, Other, Template, TypeOf, View, Zone}
+use Rattle.server_config.specs.declared.keyword.Keyword.TheVariants.{AutoDnssec, CheckNames, Database, Directory, DnssecPolicy, File, Format, InView, Include, InlineSigning, MaxTtl, Options, Other, Template, TypeOf, View, Zone}
 use Rattle.server_config.specs.declared.settings.FileFormat.{FileFormat}
 use Rattle.server_config.specs.declared.settings.FileFormat.TheVariants.{Map, Raw, Text}
 use Rattle.server_config.specs.declared.settings.Severity.{Severity}
 use Rattle.server_config.specs.declared.settings.Severity.TheVariants.{Fail, Ignore, Warn}
 use Rattle.server_config.specs.declared.settings.ZoneType.{ZoneType}
 use Rattle.server_config.specs.declared.settings.ZoneType.TheVariants.{DelegationOnly, Forward, Hint, Mirror, Primary, Redirect, Secondary, Stub}
+
+-- statements by which a server signs zones
+abbrev pub signing_keyword_of : List ℕ → Keyword
+signing_keyword_of w =
+    if same_lowered w (codes "inline-signing") then InlineSigning
+    else (if same_lowered w (codes "dnssec-policy") then DnssecPolicy else (if same_lowered w (codes "auto-dnssec") then AutoDnssec else Other))
 
 -- statements of a zone
 abbrev pub zone_keyword_of : List ℕ → Keyword
@@ -17,7 +23,7 @@ zone_keyword_of w =
     else (if same_lowered w (codes "file") then File
     else (if same_lowered w (codes "in-view") then InView
     else (if same_lowered w (codes "database") || same_lowered w (codes "dlz") then Database
-    else (if same_lowered w (codes "template") then Template else Other))))
+    else (if same_lowered w (codes "template") then Template else signing_keyword_of w))))
 
 -- statements that begin with a word
 abbrev pub keyword_of : List ℕ → Keyword
@@ -57,6 +63,16 @@ abbrev pub severity_of : List ℕ → Option Severity
 severity_of w =
     if same_lowered w (codes "fail") then Some Fail
     else (if same_lowered w (codes "warn") then Some Warn else (if same_lowered w (codes "ignore") then Some Ignore else None))
+
+-- values with which the server signs a zone: of `inline-signing`, other than this one of `dnssec-policy`, and of `auto-dnssec`
+abbrev pub is_yes_word : List ℕ → Bool
+is_yes_word w = same_lowered w (codes "yes") || same_lowered w (codes "true") || same_lowered w (codes "1")
+
+abbrev pub is_none_word : List ℕ → Bool
+is_none_word w = same_lowered w (codes "none") || same_lowered w (codes "\"none\"")
+
+abbrev pub is_signing_word : List ℕ → Bool
+is_signing_word w = same_lowered w (codes "allow") || same_lowered w (codes "maintain")
 
 -- names that `check-names` has besides those of primary zones
 abbrev pub is_other_names_word : List ℕ → Bool

@@ -2,7 +2,8 @@
 use Rattle.std.specs.Prelude.{◌≡◌, ℕ, true, false, List, [], ◌∷◌, length, map, None, Some, Result, Ok, Err, codes, refl}
 use Rattle.server_config.specs.Lexemes.{error_between}
 use Rattle.server_config.specs.Nsd.{nsd_events}
-use Rattle.server_config.specs.Settings.{no_settings, no_zone_settings, zone_outcome}
+use Rattle.server_config.specs.Settings.{no_settings, no_zone_settings, settled, signs_zones, zone_outcome}
+use Rattle.server_config.specs.Statements.{with_signing}
 use Rattle.server_config.specs.States.{first_state, state_inside}
 use Rattle.server_config.specs.Steps.{config_events}
 use Rattle.server_config.specs.Strings.{named_string}
@@ -12,6 +13,7 @@ use Rattle.server_config.specs.declared.error.ConfigError.{ConfigError}
 use Rattle.server_config.specs.declared.error.ConfigErrorKind.TheVariants.{EmptyStatement, ExpectedWord, MissingBlock, MissingSemicolon, MissingWord, OpenBlock, OpenComment, OpenQuote, Repeated, TrailingWord, UnexpectedClose, UnknownValue, UnquotedString}
 use Rattle.server_config.specs.declared.state.ConfigEvent.{ConfigEvent}
 use Rattle.server_config.specs.declared.state.ConfigEvent.TheVariants.{CloseOptions, CloseView, CloseZone, Directory, End, File, Include, MaxZoneTtl, OpenOptions, OpenView, OpenZone, UnknownType}
+use Rattle.server_config.specs.declared.keyword.Keyword.TheVariants.{AutoDnssec, DnssecPolicy, InlineSigning}
 use Rattle.server_config.specs.declared.nsd.NsdEvent.{NsdEvent}
 use Rattle.server_config.specs.declared.nsd.NsdEvent.TheVariants as events
 use Rattle.server_config.specs.declared.nsd.NsdSection.TheVariants as sections
@@ -129,10 +131,26 @@ outcomes = refl
 
 -- the format of the zone, or that of the blocks around it
 abbrev raw_outside : Settings
-raw_outside = record { format = Some Raw; check_names = None }
+raw_outside = record no_settings { format = Some Raw }
 
-formats : map (λ f. zone_outcome (record row_zone { settings = record { format = f; check_names = None } }) raw_outside) (None ∷ Some Text ∷ Some Map ∷ []) ≡ Omitted Format ∷ Checked ∷ Omitted Format ∷ []
+formats : map (λ f. zone_outcome (record row_zone { settings = record no_settings { format = f } }) raw_outside) (None ∷ Some Text ∷ Some Map ∷ []) ≡ Omitted Format ∷ Checked ∷ Omitted Format ∷ []
 formats = refl
+
+-- zones that the server signs
+abbrev row_policy : List ℕ → Settings
+row_policy = with_signing DnssecPolicy no_settings
+
+signed_zones : map signs_zones (no_settings ∷ row_policy (codes "default") ∷ with_signing InlineSigning no_settings (codes "YES") ∷ with_signing AutoDnssec no_settings (codes "maintain") ∷ [])
+    ≡ false ∷ true ∷ true ∷ true ∷ []
+signed_zones = refl
+
+other_zones : map signs_zones (row_policy (codes "None") ∷ row_policy (codes "\"none\"") ∷ with_signing InlineSigning no_settings (codes "no") ∷ with_signing AutoDnssec no_settings (codes "off") ∷ [])
+    ≡ false ∷ false ∷ false ∷ false ∷ []
+other_zones = refl
+
+-- a statement of a zone, in `options` that have another
+signed_outside : map (λ s. signs_zones (settled s (row_policy (codes "default")))) (no_settings ∷ row_policy (codes "none") ∷ []) ≡ true ∷ false ∷ []
+signed_outside = refl
 
 -- paths that NSD 4.6 opens
 path_of_two_labels : expanded_path (codes "Example.COM") (codes "%s-%1-%2-%3-%z-%y-%x-%%-%q-%S-%") ≡ codes "Example.COM-E-x-a-com-example-.-%%-%q-%S-%"

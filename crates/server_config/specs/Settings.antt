@@ -1,5 +1,5 @@
 -- What becomes of a zone.
-use Rattle.std.specs.Prelude.{false, if◌then◌else◌, Option, None, Some}
+use Rattle.std.specs.Prelude.{Bool, false, ◌||◌, if◌then◌else◌, Option, None, Some}
 use Rattle.server_config.specs.declared.settings.FileFormat.{FileFormat}
 use Rattle.server_config.specs.declared.settings.FileFormat.TheVariants.{Map, Raw, Text}
 use Rattle.server_config.specs.declared.settings.OmitReason.TheVariants.{Database, Format, InView, OtherType, Template, UnknownType}
@@ -12,7 +12,7 @@ use Rattle.server_config.specs.declared.settings.ZoneType.TheVariants.{Delegatio
 
 -- nothing is set
 abbrev pub no_settings : Settings
-no_settings = record { format = None; check_names = None }
+no_settings = record { format = None; check_names = None; inline_signing = None; has_policy = None; auto_dnssec = None }
 
 abbrev pub no_zone_settings : ZoneSettings
 no_zone_settings = record { zone_type = None; has_file = false; is_in_view = false; has_database = false; has_template = false; settings = no_settings }
@@ -23,7 +23,21 @@ inner_or (Some x) outer = Some x
 inner_or None outer = outer
 
 abbrev pub settled : Settings → Settings → Settings
-settled inner outer = record { format = inner_or inner.format outer.format; check_names = inner_or inner.check_names outer.check_names }
+settled inner outer = record {
+  format = inner_or inner.format outer.format;
+  check_names = inner_or inner.check_names outer.check_names;
+  inline_signing = inner_or inner.inline_signing outer.inline_signing;
+  has_policy = inner_or inner.has_policy outer.has_policy;
+  auto_dnssec = inner_or inner.auto_dnssec outer.auto_dnssec;
+}
+
+abbrev pub is_set : Option Bool → Bool
+is_set (Some b) = b
+is_set None = false
+
+-- a server signs zones by any of three statements
+abbrev pub signs_zones : Settings → Bool
+signs_zones s = is_set s.inline_signing || is_set s.has_policy || is_set s.auto_dnssec
 
 -- a file is checked if it is in presentation format, as it is by default
 abbrev pub format_outcome : Option FileFormat → ZoneOutcome

@@ -1,6 +1,6 @@
 -- What a statement of named.conf means for zones.
-use Rattle.std.specs.Prelude.{ℕ, Bool, true, false, if◌then◌else◌, List, Option, None, Some, is_some, Result, Ok, Err}
-use Rattle.server_config.specs.Keywords.{file_format_of, is_other_names_word, is_primary_word, severity_of, zone_type_of}
+use Rattle.std.specs.Prelude.{ℕ, Bool, true, false, not, if◌then◌else◌, List, Option, None, Some, is_some, Result, Ok, Err}
+use Rattle.server_config.specs.Keywords.{file_format_of, is_none_word, is_other_names_word, is_primary_word, is_signing_word, is_yes_word, severity_of, zone_type_of}
 use Rattle.server_config.specs.Lexemes.{error_between}
 use Rattle.server_config.specs.States.{block_settings, is_zone, with_block_settings, with_zone}
 use Rattle.server_config.specs.Tokens.{config_token_text}
@@ -170,6 +170,17 @@ abbrev pub check_names_in : List ℕ → ConfigState → Clause → ClauseWords 
 check_names_in text s c w None = pass s c
 check_names_in text s c w (Some settings) = names_in text s c w settings
 
+-- whether the server signs the zones of a block, by the value of a statement
+abbrev pub with_signing : Keyword → Settings → List ℕ → Settings
+with_signing keywords.InlineSigning settings word = record settings { inline_signing = Some (is_yes_word word) }
+with_signing keywords.DnssecPolicy settings word = record settings { has_policy = Some (not (is_none_word word)) }
+with_signing _ settings word = record settings { auto_dnssec = Some (is_signing_word word) }
+
+abbrev pub signing_in : Keyword → List ℕ → ConfigState → Clause → ClauseWords → Option Settings → Result ConfigStep ConfigError
+signing_in keyword text s c w None = pass s c
+signing_in keyword text s c w (Some settings) =
+    or_error (one_value c w) (λ t. pass (with_block_settings s (with_signing keyword settings (config_token_text text t))) c)
+
 abbrev pub include_step : ConfigState → Clause → ClauseWords → Result ConfigStep ConfigError
 include_step s c w = or_error (quoted_value c w) (λ t. Ok (step_to (Include t) s c.next))
 
@@ -188,4 +199,7 @@ simple_step keywords.File text s c w first = file_step s c w first
 simple_step keywords.InView text s c w first = in_view_step s c
 simple_step keywords.Database text s c w first = database_step s c
 simple_step keywords.Template text s c w first = template_step s c
+simple_step keywords.InlineSigning text s c w first = signing_in keywords.InlineSigning text s c w (block_settings s)
+simple_step keywords.DnssecPolicy text s c w first = signing_in keywords.DnssecPolicy text s c w (block_settings s)
+simple_step keywords.AutoDnssec text s c w first = signing_in keywords.AutoDnssec text s c w (block_settings s)
 simple_step keywords.Other text s c w first = pass s c

@@ -83,6 +83,9 @@ open_outside keywords.File s c w first = pass_block s c first
 open_outside keywords.InView s c w first = pass_block s c first
 open_outside keywords.Database s c w first = pass_block s c first
 open_outside keywords.Template s c w first = pass_block s c first
+open_outside keywords.InlineSigning s c w first = pass_block s c first
+open_outside keywords.DnssecPolicy s c w first = pass_block s c first
+open_outside keywords.AutoDnssec s c w first = pass_block s c first
 open_outside keywords.Other s c w first = pass_block s c first
 
 -- in a view are zones
@@ -100,6 +103,9 @@ open_in_view keywords.File s c w first = pass_block s c first
 open_in_view keywords.InView s c w first = pass_block s c first
 open_in_view keywords.Database s c w first = pass_block s c first
 open_in_view keywords.Template s c w first = pass_block s c first
+open_in_view keywords.InlineSigning s c w first = pass_block s c first
+open_in_view keywords.DnssecPolicy s c w first = pass_block s c first
+open_in_view keywords.AutoDnssec s c w first = pass_block s c first
 open_in_view keywords.Other s c w first = pass_block s c first
 
 -- a statement with a block

@@ -1,6 +1,6 @@
 //! The keywords that concern zones, in any case of letters.
 ghost use Rattle.std.specs.Prelude.{◌≡◌};
-ghost use Rattle.server_config.specs.Keywords.{file_format_of, is_primary_word, is_other_names_word, keyword_of, severity_of, zone_keyword_of, zone_type_of};
+ghost use Rattle.server_config.specs.Keywords.{file_format_of, is_none_word, is_primary_word, is_other_names_word, is_signing_word, is_yes_word, keyword_of, severity_of, signing_keyword_of, zone_keyword_of, zone_type_of};
 
 use crate::settings::{FileFormat, Severity, ZoneType};
 use dns_octets::lowered::same_octets;
@@ -34,11 +34,33 @@ pub(crate) enum Keyword {
     Database,
     /// `template`.
     Template,
+    /// `inline-signing`.
+    InlineSigning,
+    /// `dnssec-policy`.
+    DnssecPolicy,
+    /// `auto-dnssec`.
+    AutoDnssec,
     /// Any other word.
     Other,
 }
 
-/// Returns the keyword of a word, if it is one of a zone's alone.
+/// Returns the keyword of a word, if it is one by which a server signs zones.
+fn signing_keyword(word: &[u8]) -> Keyword
+    ensures { result ≡ signing_keyword_of word.now }
+{
+    if same_octets(word, b"inline-signing") {
+        return Keyword::InlineSigning;
+    }
+    if same_octets(word, b"dnssec-policy") {
+        return Keyword::DnssecPolicy;
+    }
+    if same_octets(word, b"auto-dnssec") {
+        return Keyword::AutoDnssec;
+    }
+    Keyword::Other
+}
+
+/// Returns the keyword of a word, if it is one of a zone's alone, or one by which a server signs zones.
 fn zone_keyword(word: &[u8]) -> Keyword
     ensures { result ≡ zone_keyword_of word.now }
 {
@@ -57,7 +79,7 @@ fn zone_keyword(word: &[u8]) -> Keyword
     if same_octets(word, b"template") {
         return Keyword::Template;
     }
-    Keyword::Other
+    signing_keyword(word)
 }
 
 /// Returns the keyword of a word.
@@ -159,6 +181,27 @@ pub(crate) fn is_primary_word(word: &[u8]) -> bool
     ensures { result ≡ is_primary_word word.now }
 {
     same_octets(word, b"primary") || same_octets(word, b"master")
+}
+
+/// Returns whether a word is `yes`, `true` or `1`.
+pub(crate) fn is_yes_word(word: &[u8]) -> bool
+    ensures { result ≡ is_yes_word word.now }
+{
+    same_octets(word, b"yes") || same_octets(word, b"true") || same_octets(word, b"1")
+}
+
+/// Returns whether a word is `none`, with or without quotes.
+pub(crate) fn is_none_word(word: &[u8]) -> bool
+    ensures { result ≡ is_none_word word.now }
+{
+    same_octets(word, b"none") || same_octets(word, b"\"none\"")
+}
+
+/// Returns whether a word is `allow` or `maintain`.
+pub(crate) fn is_signing_word(word: &[u8]) -> bool
+    ensures { result ≡ is_signing_word word.now }
+{
+    same_octets(word, b"allow") || same_octets(word, b"maintain")
 }
 
 /// Returns whether a word is another one that `check-names` has before its severity.

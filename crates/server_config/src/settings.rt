@@ -1,6 +1,6 @@
 //! What a configuration says of zones.
 ghost use Rattle.std.specs.Prelude.{◌≡◌};
-ghost use Rattle.server_config.specs.Settings.{no_settings, no_zone_settings, primary_outcome, settled, zone_outcome};
+ghost use Rattle.server_config.specs.Settings.{inner_or, is_set, no_settings, no_zone_settings, primary_outcome, settled, signs_zones, zone_outcome};
 
 /// The type of a zone.
 #[derive(Clone, Copy, Debug, PartialEq, Eq)]
@@ -54,6 +54,12 @@ pub struct Settings {
     pub format: Option<FileFormat>,
     /// The severity of `check-names` for primary zones.
     pub check_names: Option<Severity>,
+    /// Whether the server signs zones by `inline-signing`.
+    pub inline_signing: Option<bool>,
+    /// Whether the server signs zones by a `dnssec-policy`.
+    pub has_policy: Option<bool>,
+    /// Whether the server signs zones by `auto-dnssec`.
+    pub auto_dnssec: Option<bool>,
 }
 
 /// Settings of a zone.
@@ -103,6 +109,26 @@ pub enum ZoneOutcome {
     NoFile,
 }
 
+/// Returns the setting of a block, or that of the block around it.
+fn inner_or(inner: Option<bool>, outer: Option<bool>) -> Option<bool>
+    ensures { result ≡ inner_or inner outer }
+{
+    match inner {
+        Some(value) => Some(value),
+        None => outer,
+    }
+}
+
+/// Returns whether a setting is made, and is `true`.
+fn is_set(value: Option<bool>) -> bool
+    ensures { result ≡ is_set value }
+{
+    match value {
+        Some(value) => value,
+        None => false,
+    }
+}
+
 impl Settings {
     /// Returns the settings of a block that sets nothing.
     pub fn none() -> Settings
@@ -111,7 +137,17 @@ impl Settings {
         Settings {
             format: None,
             check_names: None,
+            inline_signing: None,
+            has_policy: None,
+            auto_dnssec: None,
         }
+    }
+
+    /// Returns whether the server signs the zones of a block with these settings.
+    pub fn signs_zones(&self) -> bool
+        ensures { result ≡ signs_zones self.now }
+    {
+        is_set(self.inline_signing) || is_set(self.has_policy) || is_set(self.auto_dnssec)
     }
 
     /// Returns the settings of a block, and where it has none those of the block around it.
@@ -129,6 +165,9 @@ impl Settings {
         Settings {
             format,
             check_names,
+            inline_signing: inner_or(self.inline_signing, outer.inline_signing),
+            has_policy: inner_or(self.has_policy, outer.has_policy),
+            auto_dnssec: inner_or(self.auto_dnssec, outer.auto_dnssec),
         }
     }
 }

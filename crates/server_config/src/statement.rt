@@ -2,12 +2,13 @@
 ghost use Rattle.std.specs.Prelude.{◌≡◌};
 ghost use Rattle.server_config.specs.Lexemes.{error_between};
 ghost use Rattle.server_config.specs.States.{block_settings};
-ghost use Rattle.server_config.specs.Statements.{check_names_in, checked_step, database_step, directory_in, file_step, format_in, formatted_step, in_view_step, include_step, name_token, names_in, names_step, needed_word, nothing_more, one_value, pass, path_token, quoted_value, severity_step, simple_step, step_to, template_step, ttl_in, type_step, typed_step, word_token, word_value};
+ghost use Rattle.server_config.specs.Statements.{check_names_in, checked_step, database_step, directory_in, file_step, format_in, formatted_step, in_view_step, include_step, name_token, names_in, names_step, needed_word, nothing_more, one_value, pass, path_token, quoted_value, severity_step, signing_in, simple_step, step_to, template_step, ttl_in, type_step, typed_step, with_signing, word_token, word_value};
 
 use crate::clause::{Clause, ClauseWords};
 use crate::error::{ConfigError, ConfigErrorKind};
 use crate::keyword::{
-    Keyword, is_other_names_word, is_primary_word, read_file_format, read_severity, read_zone_type,
+    Keyword, is_none_word, is_other_names_word, is_primary_word, is_signing_word, is_yes_word,
+    read_file_format, read_severity, read_zone_type,
 };
 use crate::settings::{FileFormat, Settings, Severity, ZoneSettings, ZoneType};
 use crate::state::{ConfigBlock, ConfigEvent, ConfigState, ConfigStep};
@@ -427,6 +428,48 @@ fn check_names_step(
     }
 }
 
+/// Returns settings with the value of `inline-signing`, `dnssec-policy` or `auto-dnssec`.
+fn with_signing(keyword: Keyword, settings: Settings, word: &[u8]) -> Settings
+    ensures { result ≡ with_signing keyword settings word.now }
+{
+    match keyword {
+        Keyword::InlineSigning => Settings {
+            inline_signing: Some(is_yes_word(word)),
+            ..settings
+        },
+        Keyword::DnssecPolicy => Settings {
+            has_policy: Some(!is_none_word(word)),
+            ..settings
+        },
+        _ => Settings {
+            auto_dnssec: Some(is_signing_word(word)),
+            ..settings
+        },
+    }
+}
+
+/// Reads `inline-signing`, `dnssec-policy` or `auto-dnssec`.
+fn signing_step(
+    keyword: Keyword,
+    text: &[u8],
+    state: ConfigState,
+    clause: Clause,
+    words: ClauseWords,
+) -> Result<ConfigStep, ConfigError>
+    ensures { result ≡ signing_in keyword text.now state clause words (block_settings state) }
+{
+    let Some(settings) = state.block_settings() else {
+        return pass(state, clause);
+    };
+    match one_value(clause, words) {
+        Ok(token) => {
+            let settings = with_signing(keyword, settings, token.text(text));
+            pass(state.with_block_settings(settings), clause)
+        }
+        Err(error) => Err(error),
+    }
+}
+
 /// Reads a statement without a block.
 pub(crate) fn simple_step(
     keyword: Keyword,
@@ -452,6 +495,9 @@ pub(crate) fn simple_step(
         Keyword::InView => in_view_step(state, clause),
         Keyword::Database => database_step(state, clause),
         Keyword::Template => template_step(state, clause),
+        Keyword::InlineSigning | Keyword::DnssecPolicy | Keyword::AutoDnssec => {
+            signing_step(keyword, text, state, clause, words)
+        }
         Keyword::Other => pass(state, clause),
     }
 }
