@@ -13,7 +13,7 @@ use Rattle.zone_rules.specs.Zones.{as_listed}
 use Rattle.zone_rules.proofs.Steps.{flat_map_one}
 use Rattle.zone_dnssec.specs.OwnedRecords.{find_owned, has_owned, is_owned_wanted, is_wanted_record, is_wanted_in, FindsWithin}
 use Rattle.zone_dnssec.specs.declared.owned.Wanted.{Wanted}
-use Rattle.zone_dnssec.specs.declared.owned.Wanted.TheVariants.{Soa, Signature, FittingSignature, Ttl, Unlisted, RequestOf, Request, RequestNamed, Chain, MoreThanHashes, ValidSignature, SignatureBy, KeyWith}
+use Rattle.zone_dnssec.specs.declared.owned.Wanted.TheVariants.{Soa, Signature, FittingSignature, Ttl, Unlisted, RequestOf, Request, RequestNamed, Chain, MoreThanHashes, ValidSignature, SignatureBy, KeyWith, ApexSignature, SigningNote, CurrentSignature}
 use Rattle.zone_dnssec.proofs.ChainLinks.{get_some}
 
 pub some_is : {X : Type 0} {x y : X} → Some x ≡ Some y → x ≡ y
@@ -45,6 +45,9 @@ listed_wanted R S MoreThanHashes r = refl
 listed_wanted R S (ValidSignature keys rtype) r = refl
 listed_wanted R S (SignatureBy keys rtype algorithm) r = refl
 listed_wanted R S (KeyWith algorithm) r = refl
+listed_wanted R S ApexSignature r = refl
+listed_wanted R S SigningNote r = refl
+listed_wanted R S (CurrentSignature keys rtype instant) r = refl
 
 pub wanted_in : {N O R S : Type 0} (wanted : Wanted) (o : Option (Record N O)) (x : Record R S) → Some x ≡ option_map as_listed o → is_wanted_record wanted x ≡ option_map_or (is_wanted_record wanted) o false
 wanted_in wanted o x e = of_listed (is_wanted_record wanted) (is_wanted_record wanted) (listed_wanted _ _ wanted) o x false e

@@ -1,6 +1,7 @@
 pub mod ChainCounts
 pub mod ChainFaults
 pub mod ChainLinks
+pub mod CurrentSignatures
 pub mod DenialRecords
 pub mod HashedLinks
 pub mod HashedNames
@@ -16,6 +17,7 @@ pub mod Rows
 pub mod SecurityFindings
 pub mod SignatureFields
 pub mod SignatureTimes
+pub mod SignedApex
 pub mod SignedSets
 pub mod SigningAlgorithms
 pub mod Subjects

@@ -6,15 +6,17 @@ use Rattle.dns_wire.specs.Order.{same_name}
 use Rattle.rdata_values.specs.Rtype as Rtype
 use Rattle.zone_record.specs.declared.record.Record.{Record}
 use Rattle.zone_rules.specs.Zones.{type_of}
+use Rattle.zone_dnssec.specs.CurrentSignatures.{covers_at}
 use Rattle.zone_dnssec.specs.KeyRequests.{is_request_named, is_request_of, is_request_type}
 use Rattle.zone_dnssec.specs.NsecChain.{is_hashed_denial}
 use Rattle.zone_dnssec.specs.NsecTypes.{is_unlisted}
 use Rattle.zone_dnssec.specs.Parameters.{names_chain}
+use Rattle.zone_dnssec.specs.SignedApex.{is_apex_signature, is_signing_note}
 use Rattle.zone_dnssec.specs.SignedSets.{covers}
 use Rattle.zone_dnssec.specs.SigningAlgorithms.{covers_by, is_key_with, validly_covers}
 use Rattle.zone_dnssec.specs.ZoneKeys.{fits_key}
 use Rattle.zone_dnssec.specs.declared.owned.Wanted.{Wanted}
-use Rattle.zone_dnssec.specs.declared.owned.Wanted.TheVariants.{Soa, Signature, FittingSignature, Ttl, Unlisted, RequestOf, Request, RequestNamed, Chain, MoreThanHashes, ValidSignature, SignatureBy, KeyWith}
+use Rattle.zone_dnssec.specs.declared.owned.Wanted.TheVariants.{Soa, Signature, FittingSignature, Ttl, Unlisted, RequestOf, Request, RequestNamed, Chain, MoreThanHashes, ValidSignature, SignatureBy, KeyWith, ApexSignature, SigningNote, CurrentSignature}
 
 -- the greater of two indexes
 abbrev pub greater_of : ℕ → ℕ → ℕ
@@ -35,6 +37,9 @@ is_wanted_record MoreThanHashes r = not (is_hashed_denial r)
 is_wanted_record (ValidSignature keys rtype) r = validly_covers keys.now rtype r
 is_wanted_record (SignatureBy keys rtype algorithm) r = covers_by keys.now rtype algorithm r
 is_wanted_record (KeyWith algorithm) r = is_key_with algorithm r
+is_wanted_record ApexSignature r = is_apex_signature r
+is_wanted_record SigningNote r = is_signing_note r
+is_wanted_record (CurrentSignature keys rtype instant) r = covers_at keys.now rtype instant r
 
 -- the record at an index is wanted
 abbrev pub is_wanted_in : {N O : Type 0} → Wanted → List (Record N O) → ℕ → Bool

@@ -17,6 +17,7 @@ use Rattle.zone_dnssec.specs.OptOutFlags.{is_flag_lone}
 use Rattle.zone_dnssec.specs.Parameters.{has_named_chain}
 use Rattle.zone_dnssec.specs.SignatureFields.{label_count}
 use Rattle.zone_dnssec.specs.SignatureTimes.{has_passed, seconds_between}
+use Rattle.zone_dnssec.specs.SignedApex.{has_apex_signature, is_incomplete, lacks_apex_signature}
 use Rattle.zone_dnssec.specs.SignedSets.{has_signature, must_be_signed, signs_nothing}
 use Rattle.zone_dnssec.specs.SigningAlgorithms.{signer_with, signs_keys_alone}
 use Rattle.zone_dnssec.specs.UnmatchedLinks.{shows_name}
@@ -332,3 +333,36 @@ other_algorithm_signs_row = refl
 
 standby_row : signs_keys_alone (signer_with 8 false false ∷ []) 8 ≡ false
 standby_row = refl
+
+-- ---- signed zones
+
+-- an RRSIG that covers a type below 256
+abbrev signature_of : List (List ℕ) → ℕ → Record ℕ ℕ
+signature_of owner covered = at owner Rtype.rrsig (0 ∷ covered ∷ 13 ∷ 1 ∷ 0 ∷ 0 ∷ 0 ∷ 60 ∷ 0 ∷ 0 ∷ 0 ∷ 0 ∷ 0 ∷ 0 ∷ 0 ∷ 0 ∷ 0 ∷ 1 ∷ 0 ∷ 0 ∷ [])
+
+signed_apex_row : has_apex_signature origin (signature_of origin 2 ∷ []) ≡ true
+unfolding type_shapes
+signed_apex_row = refl
+
+keys_alone_row : has_apex_signature origin (signature_of origin 48 ∷ []) ≡ false
+unfolding type_shapes
+keys_alone_row = refl
+
+lost_row : lacks_apex_signature origin (at origin Rtype.dnskey [] ∷ signature_of origin 48 ∷ at sub Rtype.a [] ∷ signature_of sub 1 ∷ []) ≡ true
+unfolding type_shapes
+lost_row = refl
+
+offline_row : lacks_apex_signature origin (at origin Rtype.dnskey [] ∷ signature_of origin 48 ∷ at sub Rtype.a [] ∷ []) ≡ false
+unfolding type_shapes
+offline_row = refl
+
+-- ---- what BIND notes of a key, and of a chain of NSEC3
+
+incomplete_row : is_incomplete (13 ∷ 241 ∷ 61 ∷ 0 ∷ 0 ∷ []) ≡ true
+incomplete_row = refl
+
+complete_row : is_incomplete (13 ∷ 241 ∷ 61 ∷ 0 ∷ 1 ∷ []) ≡ false
+complete_row = refl
+
+chain_note_row : is_incomplete (0 ∷ 1 ∷ 128 ∷ 0 ∷ 0 ∷ 0 ∷ []) ≡ true
+chain_note_row = refl

@@ -16,6 +16,7 @@ use Rattle.zone_dnssec.specs.NsecChain.{is_in_chain}
 use Rattle.zone_dnssec.specs.OptOutFlags.{has_own_flag}
 use Rattle.zone_dnssec.specs.Parameters.{has_named_chain}
 use Rattle.zone_dnssec.specs.SecurityFindings.{breaks_security, breaks_security_at}
+use Rattle.zone_dnssec.specs.SignedApex.{is_inner_signature}
 use Rattle.zone_dnssec.specs.SignedSets.{belongs_to_parent, covers_some_set, is_authoritative}
 use Rattle.zone_dnssec.specs.SigningAlgorithms.{signs_set, zone_signers}
 use Rattle.zone_dnssec.specs.UnmatchedLinks.{matches_no_name}
@@ -84,6 +85,10 @@ signs_set_in keys zone algorithm is_of_keys place = option_map_or (signs_set key
 -- the RDATA of the record at an index has these octets
 abbrev pub has_octets_in : {N O : Type 0} → List ℕ → List (Record N O) → ℕ → Bool
 has_octets_in octets records place = option_map_or (λ r. pointwise nat_eq (data_of r).octets octets) (slice_get records place) false
+
+-- the record at an index is an RRSIG of another name than the apex
+abbrev pub is_inner_in : {N O : Type 0} → List (List ℕ) → List (Record N O) → ℕ → Bool
+is_inner_in origin records place = option_map_or (is_inner_signature origin records) (slice_get records place) false
 
 -- facts about a zone as a whole
 pub record AreZoneFacts {N O : Type 0} (origin : List (List ℕ)) (records : List (Record N O)) (facts : Facts) : Type 0 where

@@ -33,7 +33,7 @@ pub struct Signer {
 }
 
 /// Returns whether an RRSIG fits a key that is not revoked, or covers DNSKEY and fits a key.
-fn fits_for_set(keys: &[Key], record: &ZoneRecord<'_>) -> bool
+pub fn fits_for_set(keys: &[Key], record: &ZoneRecord<'_>) -> bool
     ensures { result ≡ fits_for_set keys.now «record».now }
 {
     fits_valid(keys, record) || (set_type_of(record) == RecordType::DNSKEY && fits(keys, record))
@@ -82,7 +82,7 @@ fn is_by_algorithm(algorithm: u8, is_of_keys: bool, record: &ZoneRecord<'_>) -> 
 }
 
 /// Returns whether the RRset that an RRSIG covers exists, and must be signed.
-fn covers_signed_set<Z: ZoneRecords>(
+pub fn covers_signed_set<Z: ZoneRecords>(
     origin: &Name<&[u8]>,
     records: &Z,
     record: &ZoneRecord<'_>,

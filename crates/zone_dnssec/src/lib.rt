@@ -3,10 +3,12 @@
 #![tactic(auto)]
 
 pub mod algorithms;
+pub mod apex;
 pub mod bitmaps;
 pub mod chain;
 pub mod chain_links;
 pub mod check;
+pub mod current;
 pub mod denial;
 pub mod faults;
 pub mod flags;
@@ -26,6 +28,9 @@ pub mod subject;
 pub mod times;
 pub mod unmatched;
 
+pub use apex::{
+    SignedRules, SigningDemand, apex_signature, is_being_signed, lacks_apex_signature, signed_rules,
+};
 pub use check::check_signed;
 pub use rule::SecurityFinding;
 pub use times::Times;

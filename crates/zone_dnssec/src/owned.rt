@@ -5,8 +5,10 @@ ghost use Rattle.zone_dnssec.specs.Subjects.{HasOwnRange};
 ghost use Rattle.zone_rules.specs.Zones.{has_owner};
 
 use crate::algorithms::{covers_by, is_key_with, validly_covers};
+use crate::apex::{is_apex_signature, is_signing_note};
 use crate::bitmaps::is_unlisted;
 use crate::chain::is_hashed_denial;
+use crate::current::covers_at;
 use crate::keys::{Key, is_fitting};
 use crate::nsec3::is_chain;
 use crate::requests::{KeyName, is_request, is_request_named, is_request_of};
@@ -48,6 +50,12 @@ pub enum Wanted<'k> {
     SignatureBy(&'k [Key], RecordType, u8),
     /// A DNSKEY with an algorithm.
     KeyWith(u8),
+    /// An RRSIG that covers SOA or NS.
+    ApexSignature,
+    /// A note of BIND that it is signing the zone.
+    SigningNote,
+    /// An RRSIG that covers a type, fits a key, and is valid at an instant.
+    CurrentSignature(&'k [Key], RecordType, u32),
 }
 
 /// Returns whether a record is wanted.
@@ -68,6 +76,9 @@ fn is_wanted(wanted: &Wanted<'_>, record: &ZoneRecord<'_>) -> bool
         Wanted::ValidSignature(keys, rtype) => validly_covers(keys, rtype, record),
         Wanted::SignatureBy(keys, rtype, algorithm) => covers_by(keys, rtype, algorithm, record),
         Wanted::KeyWith(algorithm) => is_key_with(algorithm, record),
+        Wanted::ApexSignature => is_apex_signature(record),
+        Wanted::SigningNote => is_signing_note(record),
+        Wanted::CurrentSignature(keys, rtype, instant) => covers_at(keys, rtype, instant, record),
     }
 }
 
