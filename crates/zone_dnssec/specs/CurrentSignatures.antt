@@ -1,5 +1,5 @@
 -- RRsets with a signature that is valid at an instant.
-use Rattle.std.specs.Prelude.{ℕ, ◌==◌, ◌&&◌, not, Bool, List}
+use Rattle.std.specs.Prelude.{ℕ, ◌&&◌, not, Bool, List}
 use Rattle.std.specs.List.{list_any}
 use Rattle.dns_wire.specs.Order.{same_name}
 use Rattle.rdata_values.specs.declared.types.RecordType.{RecordType}
