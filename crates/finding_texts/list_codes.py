@@ -124,7 +124,7 @@ def compare(program):
             wrong += 1
         if name not in ALONE:
             count += 1
-            is_signed = list(known).index(variant) > list(known).index("NoDnskey")
+            is_signed = list(known).index(variant) > list(known).index("NoDnskey") and name != "unsigned-apex"
             if not tried(program, name, told[variant][2], is_signed):
                 print(f"list_codes.py: `check` finds no {name} in its example")
                 wrong += 1

@@ -73,7 +73,7 @@ pub fn summary_of(code: Code) -> &'static str {
         Code::WeakDigest => "SHA-1 is the only digest of a key",
         Code::SingleNs => "A zone has only one name server",
         Code::Hidden => "A delegation hides a record",
-        Code::NoDnskey => "The zone must be signed, and has no DNSKEY at its apex",
+        Code::NoDnskey => "The zone is signed or must be, and has no DNSKEY at its apex",
         Code::Expired => "A signature has expired",
         Code::ExpiresSoon => "A signature expires within the time of --within",
         Code::NotYetValid => "A signature is not valid yet",
@@ -282,12 +282,12 @@ pub fn text_of(code: Code) -> &'static str {
         Code::Hidden =>
             "A server answers with a referral for names at and below a delegation (RFC 1034 section 4.3.2), so no resolver gets the record. Move it to the file of the delegated zone. At a delegation only NS, DS, NSEC and RRSIG are not hidden. An A or AAAA is glue if its owner is the host of an NS of the zone; all others are one finding, at the first of them.",
         Code::NoDnskey =>
-            "--dnssec checks a signed zone. Is the file the unsigned one (RFC 4035 section 2.1)?",
+            "Without one no signature can be verified (RFC 4035 section 2.1). A zone is signed if an RRSIG at its apex covers SOA or NS, and with --dnssec each zone must be: is the file the unsigned one?",
         Code::Expired =>
-            "A validating resolver treats the RRset as bogus after the expiration time (RFC 4034 section 3.1.5). Sign the zone again. --now TIME checks at another time.",
+            "A validating resolver treats the RRset as bogus after the expiration time (RFC 4034 section 3.1.5). Sign the zone again. --now TIME checks at another time. It is a warning if the RRset has another signature that is valid and fits a key.",
         Code::ExpiresSoon => "Sign the zone again before that (RFC 6781 section 4.4.2).",
         Code::NotYetValid =>
-            "Its inception is later than now, or than --now TIME; often a clock is wrong (RFC 4034 section 3.1.5).",
+            "Its inception is later than now, or than --now TIME; often a clock is wrong (RFC 4034 section 3.1.5). It is a warning if the RRset has another signature that is valid and fits a key.",
         Code::RrsigTimes =>
             "Its expiration is earlier than its inception, compared by RFC 1982 (RFC 4034 section 3.1.5).",
         Code::RrsigSigner =>
@@ -302,7 +302,7 @@ pub fn text_of(code: Code) -> &'static str {
         Code::NoKey =>
             "Key tag and algorithm of the RRSIG are those of no DNSKEY with the Zone flag and protocol 3 (RFC 4034 section 3.1, RFC 4035 section 2.2).",
         Code::KeyMissing =>
-            "This is right while a key is replaced (RFC 6781 section 4.1.4), and otherwise a signature that was left over.",
+            "This is right while a key is replaced (RFC 6781 section 4.1.4), and otherwise a signature that was left over. All signatures by the key are one finding, at the first.",
         Code::RrsigKey =>
             "A key with the REVOKE flag signs the DNSKEY RRset alone (RFC 5011 section 2.1).",
         Code::SignsNothing =>
