@@ -227,6 +227,7 @@ way_rows =
     finding_way CaaValue 2 (Field 0) (codes "unknown flags: 0 or 128 is meant") ∷
     finding_way SvcbAlias 1 Target (codes "alias (priority 0) beside others, which have no effect") ∷
     finding_way SvcbAlias 2 Target (codes "another alias (priority 0) of the name: clients use one at random") ∷
+    finding_way SvcbAlias 3 Target (codes "alias (priority 0) that leads back to its name") ∷
     finding_way Unportable 1 Whole (codes "BIND rejects this word") ∷
     finding_way Unportable 2 Whole (codes "only BIND reads this word") ∷
     finding_way Unportable 3 Whole (codes "no server reads this word") ∷

@@ -269,7 +269,7 @@ static LATER_ROWS: [Row; 66] = [
     row!(UnusedAllow => "unused-allow", Warning, Records, NONE, WHOLE, ""),
 ];
 
-static WAYS: [Way; 16] = [
+static WAYS: [Way; 17] = [
     way!(
         CaaTag,
         1,
@@ -326,6 +326,12 @@ static WAYS: [Way; 16] = [
         TARGET,
         "another alias (priority 0) of the name: clients use one at random"
     ),
+    way!(
+        SvcbAlias,
+        3,
+        TARGET,
+        "alias (priority 0) that leads back to its name"
+    ),
     way!(Unportable, 1, WHOLE, "BIND rejects this word"),
     way!(Unportable, 2, WHOLE, "only BIND reads this word"),
     way!(Unportable, 3, WHOLE, "no server reads this word"),
@@ -334,7 +340,7 @@ static WAYS: [Way; 16] = [
 ];
 
 /// Returns the further ways of all codes.
-pub fn ways() -> &'static [Way; 16]
+pub fn ways() -> &'static [Way; 17]
     ensures { map way_seen result.now ≡ way_rows }
 {
     &WAYS

@@ -130,7 +130,7 @@ pub fn summary_of(code: Code) -> &'static str {
         Code::ZonemdSerial => "The serial of a ZONEMD is not that of the SOA",
         Code::TlsaHost => "The host of a TLSA has no address in the zone",
         Code::SvcbAlias =>
-            "An SVCB or HTTPS of priority 0 has parameters, or its name has others of the type",
+            "An SVCB or HTTPS of priority 0 has parameters, its name has others of the type, or it leads back to its name",
         Code::CdsKey => "No CDS, or no CDNSKEY, is of a DNSKEY of the zone",
         Code::CdsDiffers => "The CDS and the CDNSKEY of the apex are not of the same keys",
         Code::UnsignedApex =>
@@ -379,7 +379,7 @@ pub fn text_of(code: Code) -> &'static str {
         Code::TlsaHost =>
             "The owner of a TLSA is a port, a transport and the name of a host (RFC 6698 section 3). This host is in the zone, and has no A, AAAA or CNAME there. A wildcard above it gives it none: the TLSA makes the name exist (RFC 4592 section 2.2.3).",
         Code::SvcbAlias =>
-            "A record of priority 0 is an alias of the service: it has no parameters, and is the only one of its type. Clients ignore its parameters, and the records of other priorities beside it (RFC 9460 sections 2.4.1 and 2.4.2). Of two aliases they use one at random.",
+            "A record of priority 0 is an alias of the service: it has no parameters, and is the only one of its type. Clients ignore its parameters, and the records of other priorities beside it (RFC 9460 sections 2.4.1 and 2.4.2). Of two aliases they use one at random. Aliases that lead back lead to no service.",
         Code::CdsKey =>
             "A parent that takes the CDS as its DS has none that fits a key, and validators reject the whole zone (RFC 7344 section 4.1). Write the CDS and CDNSKEY anew from the DNSKEY that signs the DNSKEY set.",
         Code::CdsDiffers =>

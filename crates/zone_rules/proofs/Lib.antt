@@ -13,6 +13,7 @@ mod OwnDigests
 pub mod OwnRecords
 mod PairTests
 pub mod Searches
+mod ServiceLoops
 pub mod SetEnds
 pub mod SharedNames
 pub mod Steps

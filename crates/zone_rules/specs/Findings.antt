@@ -25,7 +25,7 @@ found_at_apex origin records refused = found_if (not (is_present Rtype.soa origi
 abbrev pub record_rules : List Rule
 record_rules =
     coded_rule Outside 0 ∷ coded_rule TwoSoas 0 ∷ coded_rule NsAddress 0 ∷ coded_rule Cname 0 ∷ coded_rule Dname 0 ∷ coded_rule BelowDname 0 ∷ coded_rule DsApex 0 ∷ coded_rule WildcardNs 0 ∷ coded_rule SoaNotApex 0 ∷ coded_rule NsBesideDname 0 ∷ coded_rule KeyBesideCname 0 ∷ coded_rule Nsec3Wildcard 0 ∷ coded_rule Glue 0 ∷ coded_rule TargetCname 0
-    ∷ coded_rule TargetCname 1 ∷ coded_rule TargetMissing 0 ∷ coded_rule HostName 0 ∷ coded_rule Cds 0 ∷ coded_rule CdsDelete 0 ∷ coded_rule DsWithoutNs 0 ∷ coded_rule NotAtApex 0 ∷ coded_rule KeyProtocol 0 ∷ coded_rule KeyAlgorithm 0 ∷ coded_rule CnameTargetMissing 0 ∷ coded_rule CnameLoop 0 ∷ coded_rule TwoSpf 0 ∷ coded_rule WeakDigest 0 ∷ coded_rule SingleNs 0 ∷ coded_rule NullMx 0 ∷ coded_rule ZonemdSerial 0 ∷ coded_rule TlsaHost 0 ∷ coded_rule SvcbAlias 0 ∷ coded_rule SvcbAlias 1 ∷ coded_rule SvcbAlias 2 ∷ coded_rule TtlDiffers 0 ∷ coded_rule Duplicate 0 ∷ []
+    ∷ coded_rule TargetCname 1 ∷ coded_rule TargetMissing 0 ∷ coded_rule HostName 0 ∷ coded_rule Cds 0 ∷ coded_rule CdsDelete 0 ∷ coded_rule DsWithoutNs 0 ∷ coded_rule NotAtApex 0 ∷ coded_rule KeyProtocol 0 ∷ coded_rule KeyAlgorithm 0 ∷ coded_rule CnameTargetMissing 0 ∷ coded_rule CnameLoop 0 ∷ coded_rule TwoSpf 0 ∷ coded_rule WeakDigest 0 ∷ coded_rule SingleNs 0 ∷ coded_rule NullMx 0 ∷ coded_rule ZonemdSerial 0 ∷ coded_rule TlsaHost 0 ∷ coded_rule SvcbAlias 0 ∷ coded_rule SvcbAlias 1 ∷ coded_rule SvcbAlias 2 ∷ coded_rule SvcbAlias 3 ∷ coded_rule TtlDiffers 0 ∷ coded_rule Duplicate 0 ∷ []
 
 -- the record at an index breaks the rule
 abbrev pub breaks_at : {N O : Type 0} → List (List ℕ) → List (Record N O) → List RrsetName → ℕ → Rule → Bool

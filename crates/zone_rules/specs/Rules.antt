@@ -3,6 +3,7 @@ use Rattle.std.specs.Prelude.{ℕ, zero, suc, ◌==◌, ◌&&◌, ◌||◌, not,
 use Rattle.std.specs.Cmp.Lexicographic.{pointwise}
 use Rattle.std.specs.List.{find, list_any}
 use Rattle.std.specs.Option.{option_map_or}
+use Rattle.std.specs.Ordering.{is_lt}
 use Rattle.dns_octets.specs.Lowered.{same_lowered}
 use Rattle.dns_wire.specs.Order.{same_name}
 use Rattle.finding_codes.specs.declared.code.Code.{Code}
@@ -11,6 +12,7 @@ use Rattle.finding_codes.specs.declared.rule.Rule.{Rule}
 use Rattle.rdata_values.specs.Classes.{internet}
 use Rattle.rdata_values.specs.Rtype as Rtype
 use Rattle.rdata_values.specs.declared.types.RecordType.{RecordType}
+use Rattle.zone_record.specs.Names.{name_order}
 use Rattle.zone_record.specs.Records.{data_of}
 use Rattle.zone_record.specs.declared.record.Record.{Record}
 use Rattle.zone_rules.specs.Above.{first_label_of, is_below, is_within, is_wildcard, names_above}
@@ -222,11 +224,34 @@ is_service_beside r other = is_other_of_type r other && not (is_alias_mode other
 abbrev pub is_alias_beside : {N O M P : Type 0} → Record N O → Record M P → Bool
 is_alias_beside r other = is_other_of_type r other && is_alias_mode other
 
--- what is wrong with an alias: it has parameters (section 2.4.2); it is beside others in ServiceMode (section 2.4.1); it is one of several
+-- the first service of a type at a name
+abbrev pub service_at : {N O : Type 0} → RecordType → List (List ℕ) → List (Record N O) → Option (Record N O)
+service_at rtype name records = find (λ r. same_name r.owner name && type_of r == rtype) records
+
+-- the name to which an alias leads
+abbrev pub alias_mode_target : {N O : Type 0} → Record N O → Option (List (List ℕ))
+alias_mode_target r = if is_alias_mode r then service_target r else None
+
+-- the name to which the first service of a type at a name leads
+abbrev pub name_after_alias : {N O : Type 0} → RecordType → List (Record N O) → List (List ℕ) → Option (List (List ℕ))
+name_after_alias rtype records name = option_and_then alias_mode_target (service_at rtype name records)
+
+-- up to a number of names, of which each leads to the next, end in another name, and come after that in canonical order
+abbrev pub aliases_end_in : {N O : Type 0} → ℕ → RecordType → List (Record N O) → List (List ℕ) → List (List ℕ) → Bool
+aliases_end_in zero rtype records goal name = false
+aliases_end_in (suc count) rtype records goal name =
+    same_name name goal || (is_lt (name_order goal name) && option_map_or (aliases_end_in count rtype records goal) (name_after_alias rtype records name) false)
+
+-- at most 16 aliases, of which the record is the first, lead back to its owner, the first of their names in canonical order (section 2.4.2)
+abbrev pub is_service_loop : {N O M P : Type 0} → List (Record N O) → Record M P → Bool
+is_service_loop records r = option_map_or (aliases_end_in 16 (type_of r) records r.owner) (service_target r) false
+
+-- what is wrong with an alias: it has parameters (section 2.4.2); it is beside others in ServiceMode (section 2.4.1); it is one of several; it leads back
 abbrev pub is_wrong_alias : {N O M P : Type 0} → (way : ℕ) → List (Record N O) → Record M P → Bool
 is_wrong_alias way records r =
     if way == 0 then has_svc_params r
-    else (if way == 1 then list_any (is_service_beside r) records else (not (list_any (is_service_beside r) records) && list_any (is_alias_beside r) records))
+    else (if way == 1 then list_any (is_service_beside r) records
+    else (if way == 3 then is_service_loop records r else (not (list_any (is_service_beside r) records) && list_any (is_alias_beside r) records)))
 
 -- a service in AliasMode is wrong, and the zone is authoritative for its owner
 abbrev pub has_wrong_alias : {N O M P : Type 0} → (way : ℕ) → List (List ℕ) → List (Record N O) → List RrsetName → Record M P → Bool

@@ -5,11 +5,12 @@ use Rattle.dns_wire.specs.Order.{same_name}
 use Rattle.finding_codes.specs.declared.rule.Rule.{Rule}
 use Rattle.rdata_values.specs.Classes.{internet}
 use Rattle.rdata_values.specs.Rtype as Rtype
+use Rattle.rdata_values.specs.declared.types.RecordType.{RecordType}
 use Rattle.zone_record.specs.declared.record.Record.{Record}
 use Rattle.zone_rules.specs.Above.{is_below, is_within, parent_of}
 use Rattle.zone_rules.specs.Findings.{breaks_at}
 use Rattle.zone_rules.specs.Present.{is_present}
-use Rattle.zone_rules.specs.Rules.{alias_at, breaks, is_beside_alias, is_digest_beside, is_ds_beside, is_key_of_algorithm, is_of_sha1, is_record_at_apex, is_request_beside, is_service_beside, is_other_of_type, is_soa_of_other_serial, leads_to, is_spf_beside, lacks_glue, lacks_ns_address, names_alias, names_missing, names_renamed}
+use Rattle.zone_rules.specs.Rules.{alias_at, breaks, is_beside_alias, is_digest_beside, is_ds_beside, is_key_of_algorithm, is_of_sha1, is_record_at_apex, is_request_beside, is_service_beside, is_other_of_type, is_soa_of_other_serial, leads_to, is_spf_beside, lacks_glue, lacks_ns_address, names_alias, names_missing, names_renamed, service_at}
 use Rattle.zone_rules.specs.Zones.{as_listed, has_type_at, record_before, type_of}
 use Rattle.zone_rules.specs.declared.beside.Relation.{Relation}
 use Rattle.zone_rules.specs.declared.beside.Relation.TheVariants.{Alias, Spf, Digest, Sha1, SameType, OtherSerial, Service, KeyRequest, KeyOfAlgorithm}
@@ -58,6 +59,10 @@ OwnerHasType {N} {O} records place rtype = (r : Record N O) → slice_get record
 -- the index, if there is one, of the first CNAME at a name
 abbrev pub IsFirstAlias : {N O : Type 0} → List (List ℕ) → List (Record N O) → Option ℕ → Type 0
 IsFirstAlias name records place = option_and_then (slice_get records) place ≡ alias_at name records
+
+-- the index is that of the first service of a type at a name, if there is one
+abbrev pub IsFirstService : {N O : Type 0} → RecordType → List (List ℕ) → List (Record N O) → Option ℕ → Type 0
+IsFirstService rtype name records place = option_and_then (slice_get records) place ≡ service_at rtype name records
 
 -- whether CNAMEs lead to a name from any whose first CNAME is at an index, if there is one
 abbrev pub IsLedFrom : {N O : Type 0} → ℕ → List (Record N O) → List (List ℕ) → Option ℕ → Bool → Type 0

@@ -18,8 +18,8 @@ use dns_wire::Name;
 use rdata_values::RecordType;
 use zone_record::Record;
 
-/// The number of CNAMEs that are followed from a name.
-const MAX_ALIASES: usize = 16;
+/// The number of aliases that are followed from a name.
+pub(crate) const MAX_ALIASES: usize = 16;
 
 /// Returns the name in the data of a CNAME.
 fn name_in_alias<Owner: AsOctets, Octets: AsOctets>(

@@ -6,7 +6,7 @@ use finding_codes::rule::Rule;
 use rdata_values::RecordType;
 
 /// The rules for records, in the order in which their findings are reported.
-const RECORD_RULES: [Rule; 36] = [
+const RECORD_RULES: [Rule; 37] = [
     rule!(Outside, 0),
     rule!(TwoSoas, 0),
     rule!(NsAddress, 0),
@@ -41,6 +41,7 @@ const RECORD_RULES: [Rule; 36] = [
     rule!(SvcbAlias, 0),
     rule!(SvcbAlias, 1),
     rule!(SvcbAlias, 2),
+    rule!(SvcbAlias, 3),
     rule!(TtlDiffers, 0),
     rule!(Duplicate, 0),
 ];
