@@ -206,9 +206,7 @@ fn is_service_loop<Z: ZoneRecords>(records: &Z, record: &ZoneRecord<'_>) -> bool
 {
     let goal = view(&record.owner);
     match service_target(record) {
-        Some(name) => {
-            do_aliases_end(records, record.data.rtype(), &goal, &name, MAX_ALIASES)
-        }
+        Some(name) => { do_aliases_end(records, record.data.rtype(), &goal, &name, MAX_ALIASES) }
         None => false,
     }
 }
