@@ -11,7 +11,7 @@ use Rattle.zone_rules.specs.Searches.{AreOwnedFrom}
 use Rattle.zone_rules.specs.Zones.{as_listed}
 use Rattle.zone_cuts.specs.OwnRecords.{has_passing, is_owned_passing, is_sought, passes_at, FindsPassing}
 use Rattle.zone_cuts.specs.declared.owned.Sought.{Sought}
-use Rattle.zone_cuts.specs.declared.owned.Sought.TheVariants.{Server, Equal, Signature, Key}
+use Rattle.zone_cuts.specs.declared.owned.Sought.TheVariants.{Server, Equal, Key}
 
 same_some : {X : Type 0} {x y : X} → Some x ≡ Some y → x ≡ y
 same_some f = cc
@@ -26,7 +26,6 @@ of_listed f g h (Some r) x d e = let is : x ≡ as_listed r = same_some e in ap 
 listed_sought : {N O : Type 0} (R S : Type 0) (sought : Sought) (r : Record N O) → is_sought {N = R} {O = S} sought (as_listed r) ≡ is_sought sought r
 listed_sought R S (Server host) r = refl
 listed_sought R S (Equal rtype octets) r = refl
-listed_sought R S Signature r = refl
 listed_sought R S (Key owner ds) r = refl
 
 pub sought_in : {N O R S : Type 0} (sought : Sought) (o : Option (Record N O)) (x : Record R S) → Some x ≡ option_map as_listed o → is_sought sought x ≡ option_map_or (is_sought sought) o false

@@ -6,15 +6,14 @@ use Rattle.dns_wire.specs.Order.{same_name}
 use Rattle.zone_record.specs.declared.record.Record.{Record}
 use Rattle.zone_cuts.specs.Glue.{is_equal_data}
 use Rattle.zone_cuts.specs.Servers.{is_other_server, is_server_with}
-use Rattle.zone_cuts.specs.Signers.{is_apex_signature, is_fitting_ds, is_key_of_ds}
+use Rattle.zone_cuts.specs.Signers.{is_fitting_ds, is_key_of_ds}
 use Rattle.zone_cuts.specs.declared.owned.Sought.{Sought}
-use Rattle.zone_cuts.specs.declared.owned.Sought.TheVariants.{Server, Equal, Signature, Key}
+use Rattle.zone_cuts.specs.declared.owned.Sought.TheVariants.{Server, Equal, Key}
 
 -- a record is sought
 abbrev pub is_sought : {N O : Type 0} → Sought → Record N O → Bool
 is_sought (Server host) r = is_server_with host.now r
 is_sought (Equal rtype octets) r = is_equal_data rtype octets.now r
-is_sought Signature r = is_apex_signature r
 is_sought (Key owner ds) r = is_key_of_ds owner.now ds.now r
 
 -- the record at an index passes a test

@@ -7,7 +7,8 @@ use Rattle.zone_record.specs.declared.record.Record.{Record}
 use Rattle.zone_cuts.specs.Digests.{ds_fits, is_tagged_key}
 use Rattle.zone_cuts.specs.Glue.{is_at_served_cut, is_other_glue}
 use Rattle.zone_cuts.specs.Servers.{have_other_servers}
-use Rattle.zone_cuts.specs.Signers.{is_signed_child, lacks_fitting_ds}
+use Rattle.zone_dnssec.specs.SignedApex.{has_apex_signature}
+use Rattle.zone_cuts.specs.Signers.{lacks_fitting_ds}
 
 -- `example.`, `sub.example.`, and names below it
 abbrev top : List (List ℕ)
@@ -68,10 +69,10 @@ short_row = refl
 abbrev signature : ℕ → Record ℕ ℕ
 signature covered = entry sub Rtype.rrsig (0 ∷ covered ∷ 13 ∷ 2 ∷ [])
 
-signed_row : is_signed_child sub (signature 48 ∷ signature 2 ∷ []) ≡ true
+signed_row : has_apex_signature sub (signature 48 ∷ signature 2 ∷ []) ≡ true
 signed_row = refl
 
-unsigned_row : is_signed_child sub (signature 48 ∷ []) ≡ false
+unsigned_row : has_apex_signature sub (signature 48 ∷ []) ≡ false
 unsigned_row = refl
 
 abbrev key : Record ℕ ℕ

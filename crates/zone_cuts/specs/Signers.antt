@@ -1,5 +1,5 @@
 -- The DS records of a parent, and the keys of its signed child (RFC 4035 section 2.4).
-use Rattle.std.specs.Prelude.{ℕ, ◌==◌, ◌&&◌, ◌||◌, not, Bool, List}
+use Rattle.std.specs.Prelude.{ℕ, ◌==◌, ◌&&◌, not, Bool, List}
 use Rattle.std.specs.List.{list_any}
 use Rattle.dns_octets.specs.Lowered.{lowered}
 use Rattle.dns_wire.specs.Order.{same_name}
@@ -7,16 +7,9 @@ use Rattle.dns_wire.specs.Wire.{wire}
 use Rattle.rdata_values.specs.Rtype as Rtype
 use Rattle.zone_record.specs.Records.{data_of}
 use Rattle.zone_record.specs.declared.record.Record.{Record}
-use Rattle.zone_rules.specs.Zones.{has_type_at, set_type, type_of}
+use Rattle.zone_dnssec.specs.SignedApex.{has_apex_signature}
+use Rattle.zone_rules.specs.Zones.{has_type_at, type_of}
 use Rattle.zone_cuts.specs.Digests.{ds_fits}
-
--- an RRSIG that covers SOA or NS
-abbrev pub is_apex_signature : {N O : Type 0} → Record N O → Bool
-is_apex_signature r = type_of r == Rtype.rrsig && (set_type r == Rtype.soa || set_type r == Rtype.ns)
-
--- a zone is signed if it has one at its apex
-abbrev pub is_signed_child : {N O : Type 0} → List (List ℕ) → List (Record N O) → Bool
-is_signed_child name records = list_any (λ r. same_name r.owner name && is_apex_signature r) records
 
 -- a DNSKEY that a DS with these data names, whose owner has these octets in lower case
 abbrev pub is_key_of_ds : {N O : Type 0} → List ℕ → List ℕ → Record N O → Bool
@@ -32,4 +25,4 @@ has_fitting_ds name child parent = list_any (λ r. same_name r.owner name && is_
 -- the parent delegates with DS to a signed child, and none of them fits a key
 abbrev pub lacks_fitting_ds : {N O M P : Type 0} → List (List ℕ) → List (Record N O) → List (Record M P) → Bool
 lacks_fitting_ds name parent child =
-    has_type_at Rtype.ns name parent && (has_type_at Rtype.ds name parent && (is_signed_child name child && not (has_fitting_ds name child parent)))
+    has_type_at Rtype.ns name parent && (has_type_at Rtype.ds name parent && (has_apex_signature name child && not (has_fitting_ds name child parent)))

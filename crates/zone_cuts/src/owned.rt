@@ -3,14 +3,13 @@ ghost use Rattle.std.specs.Prelude.{◌≡◌, ◌<◌, ◌≤◌, length};
 ghost use Rattle.zone_cuts.specs.Glue.{is_equal_data};
 ghost use Rattle.zone_cuts.specs.OwnRecords.{has_passing, is_sought, passes_at, FindsPassing};
 ghost use Rattle.zone_cuts.specs.Servers.{is_server_with};
-ghost use Rattle.zone_cuts.specs.Signers.{is_apex_signature, is_key_of_ds};
+ghost use Rattle.zone_cuts.specs.Signers.{is_key_of_ds};
 
 use crate::digests::ds_fits;
 use dns_wire::Name;
 use rdata_values::RecordType;
 use zone_rules::ZoneRecords;
 use zone_rules::names::are_alike;
-use zone_rules::pairs::set_type_of;
 use zone_rules::zone_records::{OwnerBuffer, ZoneRecord};
 
 /// A record that is sought among those of a name.
@@ -20,8 +19,6 @@ pub enum Sought<'k> {
     Server(&'k [u8]),
     /// A record with a type and data.
     Equal(RecordType, &'k [u8]),
-    /// An RRSIG that covers SOA or NS.
-    Signature,
     /// A DNSKEY that a DS fits. The octets of the owner come first, in lower case, and then the data
     /// of the DS.
     Key(&'k [u8], &'k [u8]),
@@ -41,14 +38,6 @@ fn is_equal_data(rtype: RecordType, octets: &[u8], record: &ZoneRecord<'_>) -> b
     record.data.rtype() == rtype && record.data.as_slice() == octets
 }
 
-/// Returns whether a record is an RRSIG that covers SOA or NS.
-fn is_apex_signature(record: &ZoneRecord<'_>) -> bool
-    ensures { result ≡ is_apex_signature «record».now }
-{
-    record.data.rtype() == RecordType::RRSIG
-        && matches!(set_type_of(record), RecordType::SOA | RecordType::NS)
-}
-
 /// Returns whether a record is a DNSKEY that a DS fits.
 fn is_key_of_ds(owner: &[u8], ds: &[u8], record: &ZoneRecord<'_>) -> bool
     ensures { result ≡ is_key_of_ds owner.now ds.now «record».now }
@@ -63,7 +52,6 @@ fn is_sought(sought: &Sought<'_>, record: &ZoneRecord<'_>) -> bool
     match *sought {
         Sought::Server(host) => is_server_with(host, record),
         Sought::Equal(rtype, octets) => is_equal_data(rtype, octets, record),
-        Sought::Signature => is_apex_signature(record),
         Sought::Key(owner, ds) => is_key_of_ds(owner, ds, record),
     }
 }

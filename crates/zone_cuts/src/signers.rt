@@ -2,23 +2,17 @@
 ghost use Rattle.std.specs.Prelude.{◌≡◌, ◌<◌, ◌≤◌, length};
 ghost use Rattle.dns_octets.specs.Lowered.{lowered};
 ghost use Rattle.zone_cuts.specs.OwnRecords.{passes_at, FindsDs};
-ghost use Rattle.zone_cuts.specs.Signers.{has_fitting_ds, is_fitting_ds, is_signed_child, lacks_fitting_ds};
+ghost use Rattle.zone_cuts.specs.Signers.{has_fitting_ds, is_fitting_ds, lacks_fitting_ds};
 
 use crate::owned::{Sought, has_sought};
 use arrayvec::ArrayVec;
 use dns_wire::Name;
 use rdata_values::RecordType;
+use zone_dnssec::apex::has_apex_signature;
 use zone_record::append_lowered;
 use zone_rules::ZoneRecords;
 use zone_rules::names::octets_of;
 use zone_rules::zone_records::{OwnerBuffer, ZoneRecord};
-
-/// Returns whether a zone is signed: an RRSIG at its apex covers SOA or NS.
-fn is_signed_child<Z: ZoneRecords>(name: &Name<&[u8]>, records: &Z) -> bool
-    ensures { result ≡ is_signed_child name.now (Z.contents records.now) }
-{
-    has_sought(records, name, &Sought::Signature)
-}
 
 /// Returns the octets of a name, with letters in lower case.
 fn lowered_octets(octets: &[u8]) -> ArrayVec<u8, 255>
@@ -102,6 +96,6 @@ pub fn lacks_fitting_ds<P: ZoneRecords, C: ZoneRecords>(
 {
     parent.has_type(name, RecordType::NS)
         && parent.has_type(name, RecordType::DS)
-        && is_signed_child(name, child)
+        && has_apex_signature(name, child)
         && !has_fitting_ds(name, child, parent)
 }

@@ -36,10 +36,10 @@ pub fn is_beside_current<Z: ZoneRecords>(
     keys: &[Key],
     instant: u32,
     records: &Z,
-    record: &ZoneRecord<'_>,
+    one: &ZoneRecord<'_>,
 ) -> bool
-    ensures { result ≡ is_beside_current keys.now instant (Z.contents records.now) «record».now }
+    ensures { result ≡ is_beside_current keys.now instant (Z.contents records.now) one.now }
 {
-    let wanted = Wanted::CurrentSignature(keys, set_type_of(record), instant);
-    has_at(records, &record.owner, &wanted)
+    let wanted = Wanted::CurrentSignature(keys, set_type_of(one), instant);
+    has_at(records, &one.owner, &wanted)
 }
