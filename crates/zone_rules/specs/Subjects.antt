@@ -44,9 +44,13 @@ has_cname_in name records refused = is_present Rtype.cname name records refused
 abbrev pub is_parent_below : List (List ℕ) → List (List ℕ) → Bool
 is_parent_below origin name = option_map_or (λ above. is_below above origin) (parent_of name) false
 
--- the record at an index is a CNAME
+-- the record at an index has a type
+abbrev pub is_of_type_in : {N O : Type 0} → RecordType → List (Record N O) → ℕ → Bool
+is_of_type_in rtype records place = option_map_or (λ r. type_of r == rtype) (slice_get records place) false
+
+-- it is a CNAME
 abbrev pub is_alias_in : {N O : Type 0} → List (Record N O) → ℕ → Bool
-is_alias_in records place = option_map_or (λ r. type_of r == Rtype.cname) (slice_get records place) false
+is_alias_in records place = is_of_type_in Rtype.cname records place
 
 -- a record is the one at an index
 abbrev pub IsRecordAt : {N O M P : Type 0} → List (Record N O) → ℕ → Record M P → Type 0

@@ -1,10 +1,8 @@
 //! Checks services (SVCB and HTTPS, RFC 9460).
-ghost use Rattle.std.specs.Prelude.{◌≡◌, ◌<◌, ◌==◌, IfSome, false, length, slice_get, true};
-ghost use Rattle.std.specs.Option.{option_map_or};
+ghost use Rattle.std.specs.Prelude.{◌≡◌, ◌<◌, IfSome, false, length, true};
 ghost use Rattle.zone_rules.specs.Rules.{after_priority, alias_mode_target, aliases_end_in, has_svc_params, has_wrong_alias, is_absent, is_alias_mode, is_service_loop, is_service_type, is_wrong_alias, names_no_service, service_target};
 ghost use Rattle.zone_rules.specs.Searches.{AreOwnedFrom};
-ghost use Rattle.zone_rules.specs.Subjects.{IsFirstService, IsRecordAt};
-ghost use Rattle.zone_rules.specs.Zones.{type_of};
+ghost use Rattle.zone_rules.specs.Subjects.{is_of_type_in, IsFirstService, IsRecordAt};
 
 use crate::aliases::{MAX_ALIASES, is_without_records};
 use crate::beside::Relation;
@@ -130,7 +128,7 @@ fn alias_mode_target<'r>(record: &'r ZoneRecord<'_>) -> Option<Name<&'r [u8]>>
 /// Returns whether the record at an index is of a type.
 fn is_of_type_at<Z: ZoneRecords>(records: &Z, place: usize, rtype: RecordType) -> bool
     requires { place < length (Z.contents records.now) }
-    ensures { result ≡ option_map_or (λ r. type_of r == rtype) (slice_get (Z.contents records.now) place) false }
+    ensures { result ≡ is_of_type_in rtype (Z.contents records.now) place }
 {
     records.type_at(place) == rtype
 }
