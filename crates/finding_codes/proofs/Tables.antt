@@ -19,7 +19,7 @@ first_count : length first_rows ≡ 67
 unfolding first_rows
 first_count = refl
 
-pub count : length finding_rows ≡ 133
+pub count : length finding_rows ≡ 132
 unfolding finding_rows first_rows later_rows
 count = refl
 

@@ -3,7 +3,7 @@ use Rattle.std.specs.Prelude.{ℕ, List, [], ◌∷◌, ◌++◌, codes, true, f
 use denote.Enum.Declared.{tag_of}
 use Rattle.finding_codes.specs.contracts.code.Code.{the_type}
 use Rattle.finding_codes.specs.declared.code.Code.{Code}
-use Rattle.finding_codes.specs.declared.code.Code.TheVariants.{OpenQuote, OpenParenthesis, ClosingParenthesis, LoneReturn, BadEscape, Nul, ByteOrderMark, ControlZ, MaxEntry, Directive, Owner, Ttl, Class, RecordType, Data, Include, File, NoOwner, NoTtl, OtherClass, NoSoa, TwoSoas, NoNs, NsAddress, Cname, Dname, DsApex, WildcardNs, SoaNotApex, NsBesideDname, Nsec3Wildcard, BelowDname, Outside, MaxTtl, NoOrigin, HighOctet, ControlOctet, Crlf, NestedParentheses, LeadingParenthesis, AdjacentTokens, NoFinalNewline, RelativeOrigin, SoaMinimumTtl, IncludeTtl, MissingDot, GenerateDot, EmptyUri, TlsaLength, IpseckeyAlgorithm, OhttpValue, Glue, TargetCname, TargetMissing, HostName, Cds, TtlDiffers, Duplicate, NotAtApex, KeyProtocol, KeyAlgorithm, CnameTargetMissing, CnameLoop, TwoSpf, WeakDigest, SingleNs, Hidden, NoDnskey, Expired, ExpiresSoon, NotYetValid, RrsigTimes, RrsigSigner, RrsigLabels, OriginalTtl, RrsigTtl, Unsigned, NoKey, KeyMissing, RrsigKey, SignsNothing, OccludedDnssec, NoNsec, NsecNext, NsecTypes, DsWithoutNs, NoNsec3, Nsec3Next, Nsec3Types, Nsec3Owner, Nsec3Iterations, Nsec3Iterations50, Nsec3Iterations0, NsecTtl, CdsDelete, RrsigLength, KeyLength, Nsec3Extra, RrsigAlgorithm, OptOut, SpfType, NaptrRegexp, NaptrBoth, CaaTag, SoaMail, SoaTimers, ReverseName, WildcardInside, TargetAddress, TxtWords, CommentInData, PtrDot, TlsaField, CaaValue, Spf, NullMx, ZonemdSerial, TlsaHost, SvcbAlias, CdsKey, CdsDiffers, UnsignedApex, Unportable, KeyBesideCname, SpfUnused, SpfLookups, Dmarc, Dkim, Delegation, DelegationDs, GlueDiffers, Exception, UnusedAllow}
+use Rattle.finding_codes.specs.declared.code.Code.TheVariants.{OpenQuote, OpenParenthesis, ClosingParenthesis, LoneReturn, BadEscape, Nul, ByteOrderMark, ControlZ, MaxEntry, Directive, Owner, Ttl, Class, RecordType, Data, Include, File, NoOwner, NoTtl, OtherClass, NoSoa, TwoSoas, NoNs, NsAddress, Cname, Dname, DsApex, WildcardNs, SoaNotApex, NsBesideDname, Nsec3Wildcard, BelowDname, Outside, MaxTtl, NoOrigin, HighOctet, ControlOctet, Crlf, NestedParentheses, LeadingParenthesis, AdjacentTokens, NoFinalNewline, RelativeOrigin, SoaMinimumTtl, IncludeTtl, MissingDot, GenerateDot, EmptyUri, TlsaLength, IpseckeyAlgorithm, OhttpValue, Glue, TargetCname, TargetMissing, HostName, Cds, TtlDiffers, Duplicate, NotAtApex, KeyProtocol, KeyAlgorithm, CnameTargetMissing, CnameLoop, TwoSpf, WeakDigest, SingleNs, Hidden, NoDnskey, Expired, ExpiresSoon, NotYetValid, RrsigTimes, RrsigSigner, RrsigLabels, OriginalTtl, RrsigTtl, Unsigned, NoKey, KeyMissing, RrsigKey, SignsNothing, OccludedDnssec, NoNsec, NsecNext, NsecTypes, DsWithoutNs, NoNsec3, Nsec3Next, Nsec3Types, Nsec3Owner, Nsec3Iterations, Nsec3Iterations50, Nsec3Iterations0, NsecTtl, CdsDelete, RrsigLength, KeyLength, Nsec3Extra, RrsigAlgorithm, OptOut, SpfType, NaptrRegexp, NaptrBoth, CaaTag, SoaMail, SoaTimers, ReverseName, WildcardInside, TargetAddress, TxtWords, CommentInData, PtrDot, TlsaField, CaaValue, Spf, NullMx, ZonemdSerial, TlsaHost, SvcbAlias, CdsKey, CdsDiffers, UnsignedApex, Unportable, KeyBesideCname, SpfUnused, Dmarc, Dkim, Delegation, DelegationDs, GlueDiffers, Exception, UnusedAllow}
 use Rattle.finding_codes.specs.declared.code.Scope.{Scope}
 use Rattle.finding_codes.specs.declared.code.Scope.TheVariants.{Text as OfText, Records as OfRecords, MaxTtl as OfTtl, Zone as OfZone, Signed as OfSigned}
 use Rattle.finding_codes.specs.declared.code.Severity.{Severity}
@@ -188,10 +188,9 @@ later_rows =
     finding_row UnsignedApex (codes "unsigned-apex") Warning OfSigned none Whole (codes "zone has signatures, and its apex has none") ∷
     finding_row Unportable (codes "unportable") Warning OfRecords none Whole [] ∷
     finding_row KeyBesideCname (codes "key-beside-cname") Warning OfZone none Whole (codes "KEY beside a CNAME: Knot, NSD and ldns reject it") ∷
-    finding_row SpfUnused (codes "spf-unused") Warning OfRecords none (Field 0) (codes "term of an SPF record that no receiver reaches") ∷
-    finding_row SpfLookups (codes "spf-lookups") Warning OfZone none Whole (codes "SPF record with more than 10 look-ups") ∷
-    finding_row Dmarc (codes "dmarc") Warning OfRecords none (Field 0) (codes "malformed DMARC record, which has no effect") ∷
-    finding_row Dkim (codes "dkim") Warning OfRecords none (Field 0) (codes "malformed DKIM key record, which has no effect") ∷
+    finding_row SpfUnused (codes "spf-unused") Warning OfRecords none (Field 0) (codes "mechanism after all in an SPF record, which no receiver tests") ∷
+    finding_row Dmarc (codes "dmarc") Warning OfRecords none (Field 0) (codes "first tag is not exactly v=DMARC1, so receivers ignore the record") ∷
+    finding_row Dkim (codes "dkim") Warning OfRecords none (Field 0) (codes "v is not the first tag, or not exactly DKIM1") ∷
     finding_row Delegation (codes "delegation") Warning OfZone of_absence Target [] ∷
     finding_row DelegationDs (codes "delegation-ds") Warning OfZone of_absence Whole (codes "no DS is of a DNSKEY of the zone below") ∷
     finding_row GlueDiffers (codes "glue-differs") Warning OfZone of_absence Whole (codes "address is not one that the zone below has") ∷
@@ -233,6 +232,19 @@ way_rows =
     finding_way Unportable 3 Whole (codes "no server reads this word") ∷
     finding_way Unportable 4 Whole (codes "Knot rejects this word") ∷
     finding_way Unportable 5 Whole (codes "some servers reject this word") ∷
+    finding_way Spf 1 (Field 0) (codes "redirect or exp occurs twice, which makes all of the record an error") ∷
+    finding_way Spf 2 Last (codes "strings joined without a blank between two terms of an SPF record") ∷
+    finding_way SpfUnused 1 (Field 0) (codes "redirect beside all, which receivers ignore") ∷
+    finding_way Dmarc 1 (Field 0) (codes "a tag has no value: = is missing") ∷
+    finding_way Dmarc 2 (Field 0) (codes "a tag occurs twice, which makes all of the record an error") ∷
+    finding_way Dmarc 3 (Field 0) (codes "tag with a value that DMARC doesn't define") ∷
+    finding_way Dmarc 4 (Field 0) (codes "report address without a scheme, as mailto:") ∷
+    finding_way Dmarc 5 (Field 0) (codes "neither the tag p nor rua, so no policy applies") ∷
+    finding_way Dkim 1 (Field 0) (codes "no tag p, which has the key") ∷
+    finding_way Dkim 2 (Field 0) (codes "p is not base 64") ∷
+    finding_way Dkim 3 (Field 0) (codes "p is cut: base 64 with a digit too many or too few") ∷
+    finding_way Dkim 4 (Field 0) (codes "p is not all of an RSA key: its length differs from the one in it") ∷
+    finding_way Dkim 5 (Field 0) (codes "p is not an Ed25519 key, which has 32 octets") ∷
     []
 
 abbrev pub way_seen : Way → FindingWay

@@ -330,8 +330,6 @@ pub enum Code {
     KeyBesideCname,
     /// An SPF record has a term that no receiver reaches.
     SpfUnused,
-    /// An SPF record needs more look-ups than receivers make.
-    SpfLookups,
     /// A DMARC record is malformed.
     Dmarc,
     /// A DKIM key record is malformed.

@@ -200,7 +200,7 @@ static FIRST_ROWS: [Row; 67] = [
     row!(Hidden => "hidden", Warning, Zone, NONE, WHOLE, "hidden by a delegation"),
 ];
 
-static LATER_ROWS: [Row; 66] = [
+static LATER_ROWS: [Row; 65] = [
     row!(NoDnskey => "no-dnskey", Error, Signed, NONE, WHOLE, "no DNSKEY at the apex: the zone is not signed"),
     row!(Expired => "expired", Error, Signed, TIME, WHOLE, "signature has expired"),
     row!(ExpiresSoon => "expires-soon", Warning, Signed, TIME, WHOLE, "signature expires soon"),
@@ -258,10 +258,9 @@ static LATER_ROWS: [Row; 66] = [
     row!(UnsignedApex => "unsigned-apex", Warning, Signed, NONE, WHOLE, "zone has signatures, and its apex has none"),
     row!(Unportable => "unportable", Warning, Records, NONE, WHOLE, ""),
     row!(KeyBesideCname => "key-beside-cname", Warning, Zone, NONE, WHOLE, "KEY beside a CNAME: Knot, NSD and ldns reject it"),
-    row!(SpfUnused => "spf-unused", Warning, Records, NONE, FIELD_0, "term of an SPF record that no receiver reaches"),
-    row!(SpfLookups => "spf-lookups", Warning, Zone, NONE, WHOLE, "SPF record with more than 10 look-ups"),
-    row!(Dmarc => "dmarc", Warning, Records, NONE, FIELD_0, "malformed DMARC record, which has no effect"),
-    row!(Dkim => "dkim", Warning, Records, NONE, FIELD_0, "malformed DKIM key record, which has no effect"),
+    row!(SpfUnused => "spf-unused", Warning, Records, NONE, FIELD_0, "mechanism after all in an SPF record, which no receiver tests"),
+    row!(Dmarc => "dmarc", Warning, Records, NONE, FIELD_0, "first tag is not exactly v=DMARC1, so receivers ignore the record"),
+    row!(Dkim => "dkim", Warning, Records, NONE, FIELD_0, "v is not the first tag, or not exactly DKIM1"),
     row!(Delegation => "delegation", Warning, Zone, ABSENCE, TARGET, ""),
     row!(DelegationDs => "delegation-ds", Warning, Zone, ABSENCE, WHOLE, "no DS is of a DNSKEY of the zone below"),
     row!(GlueDiffers => "glue-differs", Warning, Zone, ABSENCE, WHOLE, "address is not one that the zone below has"),
@@ -269,7 +268,7 @@ static LATER_ROWS: [Row; 66] = [
     row!(UnusedAllow => "unused-allow", Warning, Records, NONE, WHOLE, ""),
 ];
 
-static WAYS: [Way; 17] = [
+static WAYS: [Way; 30] = [
     way!(
         CaaTag,
         1,
@@ -337,10 +336,73 @@ static WAYS: [Way; 17] = [
     way!(Unportable, 3, WHOLE, "no server reads this word"),
     way!(Unportable, 4, WHOLE, "Knot rejects this word"),
     way!(Unportable, 5, WHOLE, "some servers reject this word"),
+    way!(
+        Spf,
+        1,
+        FIELD_0,
+        "redirect or exp occurs twice, which makes all of the record an error"
+    ),
+    way!(
+        Spf,
+        2,
+        LAST,
+        "strings joined without a blank between two terms of an SPF record"
+    ),
+    way!(
+        SpfUnused,
+        1,
+        FIELD_0,
+        "redirect beside all, which receivers ignore"
+    ),
+    way!(Dmarc, 1, FIELD_0, "a tag has no value: = is missing"),
+    way!(
+        Dmarc,
+        2,
+        FIELD_0,
+        "a tag occurs twice, which makes all of the record an error"
+    ),
+    way!(
+        Dmarc,
+        3,
+        FIELD_0,
+        "tag with a value that DMARC doesn't define"
+    ),
+    way!(
+        Dmarc,
+        4,
+        FIELD_0,
+        "report address without a scheme, as mailto:"
+    ),
+    way!(
+        Dmarc,
+        5,
+        FIELD_0,
+        "neither the tag p nor rua, so no policy applies"
+    ),
+    way!(Dkim, 1, FIELD_0, "no tag p, which has the key"),
+    way!(Dkim, 2, FIELD_0, "p is not base 64"),
+    way!(
+        Dkim,
+        3,
+        FIELD_0,
+        "p is cut: base 64 with a digit too many or too few"
+    ),
+    way!(
+        Dkim,
+        4,
+        FIELD_0,
+        "p is not all of an RSA key: its length differs from the one in it"
+    ),
+    way!(
+        Dkim,
+        5,
+        FIELD_0,
+        "p is not an Ed25519 key, which has 32 octets"
+    ),
 ];
 
 /// Returns the further ways of all codes.
-pub fn ways() -> &'static [Way; 17]
+pub fn ways() -> &'static [Way; 30]
     ensures { map way_seen result.now ≡ way_rows }
 {
     &WAYS
@@ -354,7 +416,7 @@ fn first_rows() -> &'static [Row; 67]
 }
 
 /// Returns the rows of the other codes, in their order.
-fn later_rows() -> &'static [Row; 66]
+fn later_rows() -> &'static [Row; 65]
     ensures { map row_seen result.now ≡ later_rows }
 {
     &LATER_ROWS
@@ -369,14 +431,14 @@ fn row_in(rows: &[Row], at: usize) -> &Row
 }
 
 /// Number of codes.
-pub const COUNT: usize = 133;
+pub const COUNT: usize = 132;
 
 /// Number of the first codes.
 const FIRST_COUNT: usize = 67;
 
 /// Returns the row at an index of both tables.
 fn row_of_index(at: usize) -> &'static Row
-    requires { at < 133 }
+    requires { at < 132 }
     ensures { row_seen result.now ≡ get_or finding_rows at no_row }
 {
     if at < FIRST_COUNT {

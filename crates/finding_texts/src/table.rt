@@ -138,7 +138,6 @@ pub fn summary_of(code: Code) -> &'static str {
         Code::Unportable => "A word is one that not every name server reads",
         Code::KeyBesideCname => "A KEY is at the owner of a CNAME",
         Code::SpfUnused => "An SPF record has a mechanism after all, or a redirect beside it",
-        Code::SpfLookups => "An SPF record, with those it includes, needs more than 10 look-ups",
         Code::Dmarc => "A DMARC record is malformed",
         Code::Dkim => "A DKIM key record is malformed",
         Code::Delegation => "A zone and its parent, both checked, have other name servers for it",
@@ -371,7 +370,7 @@ pub fn text_of(code: Code) -> &'static str {
         Code::CaaValue =>
             "A certification authority that can't parse issue or issuewild issues no certificate. Their value is a domain name or nothing, and after a semicolon parameters NAME=VALUE with semicolons between them (RFC 8659 sections 4.2 and 4.3). So is that of issuemail (RFC 9495) and issuevmc. The value of iodef is a URL of mailto, http or https (RFC 8659 section 4.4). The flags are 0, or 128 for a tag that must be understood (section 4.1).",
         Code::Spf =>
-            "A receiver that finds a malformed term treats the whole record as an error, and mail may be rejected (RFC 7208 section 4.6). Mechanisms are all, include, a, mx, ptr, ip4, ip6 and exists, with a colon before their domain or address. Modifiers are NAME=VALUE, as redirect=DOMAIN. Domains have a dot, or end with a macro. The text of a record of several strings is not looked at.",
+            "A receiver that finds a malformed term treats the whole record as an error, and mail may be rejected (RFC 7208 section 4.6). Mechanisms are all, include, a, mx, ptr, ip4, ip6 and exists, with a colon before their domain or address. Modifiers are NAME=VALUE, as redirect=DOMAIN. Domains have a dot, or end with a macro. The strings of a record are joined without blanks. redirect and exp occur at most once each (section 6). Strings of more than 2,048 octets are not looked at.",
         Code::NullMx =>
             "An MX whose exchange is the root says that the name receives no mail (RFC 7505 section 3). Such a name must have no other MX: senders may reject its mail, or use the other one. Remove one of them.",
         Code::ZonemdSerial =>
@@ -392,12 +391,10 @@ pub fn text_of(code: Code) -> &'static str {
             "RFC 4035 section 2.5 allows it, and BIND loads the zone. Knot, NSD and ldns reject it. Write one of the two at another name.",
         Code::SpfUnused =>
             "Mechanisms are tried in order, and all matches every sender, so those after it have no effect (RFC 7208 section 5.1). A redirect is ignored if the record has all (section 6.1). Move all to the end.",
-        Code::SpfLookups =>
-            "A receiver makes at most 10 look-ups for the terms include, a, mx, ptr, exists and redirect, those of included records as well, and then treats the record as an error (RFC 7208 section 4.6.4). Records of other zones are not looked at. Write addresses as ip4 and ip6.",
         Code::Dmarc =>
-            "A receiver ignores a record that doesn't begin with v=DMARC1, and tags whose values it doesn't know (RFC 7489 section 6.3).",
+            "A receiver ignores a record that doesn't begin with v=DMARC1, and applies no policy without p and rua (RFC 7489 sections 6.3 and 6.6.3). Tags are NAME=VALUE with semicolons between them, each once, and their names are in small letters. p, sp and np are none, quarantine or reject; adkim and aspf r or s; pct is up to 100; rua and ruf are URIs, as mailto:reports@example.com, with commas between them. Strings of more than 2,048 octets are not looked at.",
         Code::Dkim =>
-            "A receiver can't use the key, and signatures by it don't count (RFC 6376 section 3.6.1, RFC 8463). Copy the record again from the signer, and keep it in quotes.",
+            "A receiver can't use the key, and signatures by it don't count (RFC 6376 section 3.6.1, RFC 8463). The tag v, if it is there, is the first and is DKIM1. The tag p is the key in base 64: all octets of an RSA key, or the 32 octets of an Ed25519 key (k=ed25519). An empty p revokes a key. Copy the record again from the signer, and keep it in quotes. Strings of more than 2,048 octets are not looked at.",
         Code::Delegation =>
             "The parent's NS should be those of the zone itself (RFC 1034 section 4.2.2): a resolver uses the one and the other. Correct the delegation, or the zone.",
         Code::DelegationDs =>
@@ -570,8 +567,6 @@ pub fn example_of(code: Code) -> &'static str {
         Code::Unportable => "a=b TXT x",
         Code::KeyBesideCname => "a CNAME o.\na KEY 256 3 8 AQID",
         Code::SpfUnused => "a TXT \"v=spf1 -all mx\"",
-        Code::SpfLookups =>
-            "a TXT \"v=spf1 a:1.o a:2.o a:3.o a:4.o a:5.o a:6.o a:7.o a:8.o a:9.o a:10.o a:11.o -all\"",
         Code::Dmarc => "_dmarc TXT \"v=DMARC1; p=rejct\"",
         Code::Dkim => "s._domainkey TXT \"v=DKIM1; k=rsa\"",
         Code::Delegation => "a NS ns",
