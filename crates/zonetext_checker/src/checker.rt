@@ -2,6 +2,7 @@
 mod record_checks;
 mod zone_checks;
 
+use crate::finding_kinds::{has_no_origin, is_bare_name, is_unclosed};
 use crate::finding_reports::Findings;
 use crate::held_zone::{HeldZone, RecordLocation, SortedZone};
 use crate::lone_rules::{begins_local, breaks_none};
@@ -88,6 +89,8 @@ pub struct Checker<'a> {
     pub seen: Option<SoaInfo>,
     /// Numbers of the files for which CR LF was reported.
     crlf_files: Vec<usize>,
+    /// Numbers of the files for which a name was reported that Knot rejects.
+    bare_name_files: Vec<usize>,
     /// Whether it was reported that no origin is known.
     pub has_reported_origin: bool,
     /// Whether it was reported that the last owner was rejected.
@@ -130,16 +133,6 @@ fn lints(entry: &Entry<'_>, scan: OctetScan) -> bool {
 /// Returns whether a finding is about the octets of an entry.
 fn is_of_octets(finding: &EntryFinding) -> bool {
     matches!(finding.about, About::Octets)
-}
-
-/// Returns whether a relative name without an origin is among findings.
-fn has_no_origin(found: &[EntryFinding]) -> bool {
-    for finding in found {
-        if finding.code == Code::NoOrigin {
-            return true;
-        }
-    }
-    false
 }
 
 /// Returns what an entry was read as.
@@ -199,6 +192,7 @@ impl<'a> Checker<'a> {
             records: 0,
             seen: None,
             crlf_files: Vec::new(alloc),
+            bare_name_files: Vec::new(alloc),
             has_reported_origin: false,
             has_reported_owner: false,
             lacks_ttl: false,
@@ -306,7 +300,8 @@ impl<'a> Checker<'a> {
                         || (self.is_usual_ttl(*ttl)
                             && data_code(*rtype, entry.data).is_none()
                             && breaks_none(entry, scan, *rtype).unwrap_or(false)
-                            && !self.may_show_names(entry, scan, *rtype)))
+                            && !self.may_show_names(entry, scan, *rtype)
+                            && !self.may_show_words(entry, *rtype)))
             }
             _ => false,
         }
@@ -514,6 +509,7 @@ impl<'a> Checker<'a> {
             reports_slips: self.limits.reports_slips,
             reported: self.reported_octets(),
             is_crlf_reported: self.crlf_files.contains(&entry.number),
+            is_bare_name_reported: self.bare_name_files.contains(&entry.number),
             origin: origin.as_bytes(),
             state: OriginState {
                 assumes_root: is_below_root && entry.state.origin.name().is_some(),
@@ -605,8 +601,14 @@ impl<'a> Checker<'a> {
     ) -> Result<(), RunError> {
         let mut cache = EntryCache::new(self.alloc, entry);
         for finding in found {
-            if !is_of_octets(finding) && !self.is_passed(entry, finding) {
-                self.report_finding(entry, &mut cache, finding)?;
+            if is_of_octets(finding)
+                || self.is_passed(entry, finding)
+                || self.is_beside_other(entry, found, finding)?
+            {
+                continue;
+            }
+            if self.report_finding(entry, &mut cache, finding)? && is_bare_name(finding) {
+                self.bare_name_files.push(entry.number)?;
             }
         }
         Ok(())
@@ -622,25 +624,25 @@ impl<'a> Checker<'a> {
         }
     }
 
-    /// Reports a finding about an entry that is not about its octets.
+    /// Reports a finding about an entry that is not about its octets. Returns whether it is counted.
     fn report_finding<'e>(
         &mut self,
         entry: &Entry<'e>,
         cache: &mut EntryCache<'e>,
         finding: &EntryFinding,
-    ) -> Result<(), RunError> {
+    ) -> Result<bool, RunError> {
+        let findings = &mut self.findings;
         match entry.read {
+            Ok(_) => return findings.report_found(entry, cache, finding, self.limits.max_ttl),
             Err(BlockRefusal::Text(fault)) => {
-                self.findings.report_fault(entry, cache, finding, *fault)
+                findings.report_fault(entry, cache, finding, *fault)?
             }
-            Err(BlockRefusal::LongEntry) => self.report_long(entry),
-            Err(BlockRefusal::Entry(error)) => self
-                .findings
-                .report_explained(entry, cache, finding, error),
-            Ok(_) => self
-                .findings
-                .report_found(entry, cache, finding, self.limits.max_ttl),
+            Err(BlockRefusal::LongEntry) => self.report_long(entry)?,
+            Err(BlockRefusal::Entry(error)) => {
+                findings.report_explained(entry, cache, finding, error)?
+            }
         }
+        Ok(true)
     }
 
     /// Reports findings about an entry.
@@ -677,16 +679,6 @@ impl<'a> Checker<'a> {
             _ => self.report_read(entry, found),
         }
     }
-}
-
-/// Returns whether a finding is that of a quote or a parenthesis that is not closed.
-fn is_unclosed(found: &[EntryFinding]) -> bool {
-    for finding in found {
-        if matches!(finding.code, Code::OpenQuote | Code::OpenParenthesis) {
-            return true;
-        }
-    }
-    false
 }
 
 impl<'a> Visit for Checker<'a> {

@@ -1,7 +1,11 @@
 //! The messages of findings about an entry.
 use finding_codes::code::Code;
+use finding_codes::rule::Rule;
+use rdata_values::{Algorithm, RecordType};
 use std::alloc::{AllocError, Global};
 use zone_check::finding::{About, EntryFinding};
+use zone_check::unportable::{BARE_NAME, RARE_TYPE, bare_octet, escaped_name};
+use zonetext_files::shown::quoted;
 use zonetext_files::zone_files::Entry;
 use zonetext_findings::locations::{begins_blank, data_start, tokens_of, width};
 use zonetext_findings::subjects::Text;
@@ -85,6 +89,51 @@ pub fn finding_at_part(
     }
 }
 
+/// Returns the text of a name that Knot rejects, with a backslash before each of the octets for which.
+fn bare_name_text(alloc: Global, word: &[u8]) -> Result<Text, AllocError> {
+    let octet = char::from(bare_octet(word).unwrap_or(b'?'));
+    let name = quoted(alloc, word)?;
+    let name = name.as_str();
+    let message = format!(in alloc; "Knot rejects '{octet}' in a name without a backslash {name}")?;
+    let text = Text::new(alloc, message);
+    let escaped = escaped_name(alloc, word)?;
+    match str::from_utf8(escaped.as_slice()) {
+        Ok(escaped) => Ok(Text {
+            help: format!(in alloc; "write {escaped}")?,
+            ..text
+        }),
+        Err(_) => Ok(text),
+    }
+}
+
+/// Returns what every server reads instead of a word.
+fn portable_word(alloc: Global, rule: Rule, word: &[u8]) -> Result<String, AllocError> {
+    if rule.way == RARE_TYPE {
+        return match RecordType::from_text(word) {
+            Ok(rtype) => format!(in alloc; "write TYPE{}", rtype.0),
+            Err(_) => Ok(String::new(alloc)),
+        };
+    }
+    match word {
+        b"dohpath" => String::from_str(alloc, "write key7"),
+        b"ohttp" => String::from_str(alloc, "write key8"),
+        _ => match Algorithm::from_text(word) {
+            Ok(algorithm) => format!(in alloc; "write {}", algorithm.0),
+            Err(_) => Ok(String::new(alloc)),
+        },
+    }
+}
+
+/// Returns the text of a word that not every server reads.
+fn unportable_text(alloc: Global, rule: Rule, word: &[u8]) -> Result<Text, AllocError> {
+    if rule.way == BARE_NAME {
+        return bare_name_text(alloc, word);
+    }
+    let text = Text::worded(alloc, rule.message(), Some(word))?;
+    let help = portable_word(alloc, rule, word)?;
+    Ok(Text { help, ..text })
+}
+
 /// Returns the text of a finding about an entry. `most` is the greatest TTL that is allowed.
 pub fn entry_text(
     alloc: Global,
@@ -93,6 +142,9 @@ pub fn entry_text(
     most: Option<u32>,
 ) -> Result<Text, AllocError> {
     match finding.about {
+        About::RuleAtToken(rule) if rule.code == Code::Unportable => {
+            unportable_text(alloc, rule, word_at(entry, finding))
+        }
         About::RuleAtToken(rule) => {
             Text::worded(alloc, rule.message(), Some(word_at(entry, finding)))
         }

@@ -171,23 +171,25 @@ impl<'a> Findings<'a> {
         )
     }
 
-    /// Reports a finding about an entry. `most` is the greatest TTL that is allowed.
+    /// Reports a finding about an entry, and returns whether it is counted. `most` is the greatest TTL
+    /// that is allowed.
     pub fn report_found<'e>(
         &mut self,
         entry: &Entry<'e>,
         cache: &mut EntryCache<'e>,
         finding: &EntryFinding,
         most: Option<u32>,
-    ) -> Result<(), RunError> {
+    ) -> Result<bool, RunError> {
         let finding = &finding_at_part(self.alloc, entry, finding)?;
         let (code, start) = (finding.code, finding.start);
         let position = cache.position(entry, start);
         let Some(counted) = self.reporter.count(entry.number, position, code, false) else {
-            return Ok(());
+            return Ok(false);
         };
         let spot = cache.located(entry, start, position, finding.width);
         let text = entry_text(self.alloc, entry, finding, most)?;
-        self.show_entry(entry, cache, counted, spot, code, &text)
+        self.show_entry(entry, cache, counted, spot, code, &text)?;
+        Ok(true)
     }
 
     /// Reports a syntax error of the text.

@@ -401,6 +401,22 @@ fn second_cname<Origin: AsOctets>(
     Ok(Some(Text::new(alloc, text)))
 }
 
+/// Returns the message about a CDS or CDNSKEY of an algorithm of which the zone has no DNSKEY.
+fn missing_algorithm(alloc: Global, record: &HeldRecord<'_>) -> Result<Option<Text>, AllocError> {
+    let octets = record.data.as_slice();
+    let (rtype, algorithm) = match record.data.rtype() {
+        RecordType::CDS => ("CDS", octets.get(2)),
+        _ => ("CDNSKEY", octets.get(3)),
+    };
+    let Some(algorithm) = algorithm else {
+        return Ok(None);
+    };
+    let text = format!(in alloc;
+        "{rtype} of algorithm {algorithm}, of which the zone has no DNSKEY '{algorithm}'"
+    )?;
+    Ok(Some(Text::new(alloc, text)))
+}
+
 /// Returns the message about a record that breaks a rule, if it has more than that of the code.
 fn own_text<Origin: AsOctets>(
     alloc: Global,
@@ -425,6 +441,7 @@ fn own_text<Origin: AsOctets>(
             None => apex_cname(alloc, records, record),
         },
         Code::HostName => host_text(alloc, record),
+        Code::Cds => missing_algorithm(alloc, record),
         Code::Outside => outside_text(alloc, records, record),
         _ => Ok(None),
     }

@@ -1,5 +1,7 @@
 //! Findings about a record, and about a directive, by itself.
 use super::{Checker, SoaInfo};
+use crate::finding_kinds::{has_other_of_word, is_bare_name};
+use crate::portable::{may_be_unportable, may_have_own_sign};
 use crate::scan::{ends_twice, repeats_origin};
 use crate::spelled_names::has_absolute_names;
 use dns_wire::DisplayWithoutDot;
@@ -8,7 +10,8 @@ use std::alloc::AllocError;
 use zone_check::finding::EntryFinding;
 use zone_check::scan::OctetScan;
 use zone_reader::{NameBuffer, RecordTtl};
-use zone_record::Data;
+use zone_record::{Data, record_of};
+use zone_rules::host_names::is_no_host_name;
 use zone_serial::serial_of;
 use zonetext_files::stop::RunError;
 use zonetext_files::zone_files::Entry;
@@ -21,6 +24,14 @@ fn may_repeat_origin(entry: &Entry<'_>, scan: OctetScan, origin: &[u8]) -> bool 
         return true;
     };
     scan.has_backslash || ends_twice(owner.as_slice(), origin) || repeats_origin(entry.data, origin)
+}
+
+/// Returns whether a name of a record must be that of a host, and isn't.
+fn has_bad_host(entry: &Entry<'_>) -> Result<bool, RunError> {
+    match entry.record()? {
+        Some(given) => Ok(record_of(&given).is_some_and(|record| is_no_host_name(&record))),
+        None => Ok(false),
+    }
 }
 
 impl<'a> Checker<'a> {
@@ -40,6 +51,33 @@ impl<'a> Checker<'a> {
                 && !has_absolute_names(entry.octets, rtype);
         }
         may_repeat_origin(entry, scan, origin.as_slice())
+    }
+
+    /// Returns whether a record may have words that not every server reads.
+    pub(super) fn may_show_words(&self, entry: &Entry<'_>, rtype: RecordType) -> bool {
+        if entry.generated.is_some() {
+            return false;
+        }
+        let skips_names = self.bare_name_files.contains(&entry.number);
+        (!skips_names && may_have_own_sign(entry.octets))
+            || may_be_unportable(rtype, entry.data, skips_names)
+    }
+
+    /// Returns whether a finding about a name that Knot rejects is not reported: one of its file was, or
+    /// another finding is about the name.
+    pub(super) fn is_beside_other(
+        &self,
+        entry: &Entry<'_>,
+        found: &[EntryFinding],
+        finding: &EntryFinding,
+    ) -> Result<bool, RunError> {
+        if !is_bare_name(finding) {
+            return Ok(false);
+        }
+        if self.bare_name_files.contains(&entry.number) || has_other_of_word(found, finding) {
+            return Ok(true);
+        }
+        Ok(self.zone.is_some() && has_bad_host(entry)?)
     }
 
     /// Returns the text of the origin without its last dot, or none if names need not be looked at
