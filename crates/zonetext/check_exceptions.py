@@ -15,6 +15,8 @@ from check_support import counts, program_of, put, same
 
 FRONT = "$ORIGIN example.\n@ 60 SOA ns h 1 4 2 9 5\n@ NS ns\n@ NS ns.o.\nns A 192.0.2.1\n"
 ZONE = ["--zone", "example."]
+# A signature that expired long ago, and is by no key.
+RRSIG = "@ RRSIG SOA 13 1 60 20200101000000 20191201000000 1 example. " + 86 * "A" + "=="
 # The lines of a zone file after FRONT, the options, and the findings: number of the line among these, column, severity,
 # code, and the word of the message if it has one.
 COMMENTS = [
@@ -94,15 +96,27 @@ SETTINGS = [
     ('skip-type = ["MX"]\n', ZONE, "a TXT MX\na MX 10 gone\nb CNAME a", []),
     ('skip-type = ["A"]\n', ZONE, "a A 192.0.2.2\n@ MX 10 a", []),
     ('skip-type = ["A"]\n', ZONE, "a AAAA ::1\n@ MX 10 b", ["target-missing"]),
+    # zones that must be signed, and whose signatures are not checked
+    ("", ZONE, RRSIG, ["no-dnskey"]),
+    ("dnssec = false\n", ZONE, RRSIG, []),
+    ("dnssec = false\n", [*ZONE, "--dnssec"], RRSIG, ["no-dnskey"]),
+    ("dnssec = true\n", ZONE, "a A 192.0.2.2", ["no-dnskey"]),
+    ("dnssec = true\n", [*ZONE, "--no-dnssec"], RRSIG, []),
+    ("dnssec = true\n", [], RRSIG, []),
+    # what is not looked for is not unused
+    ("", ZONE, "a A 192.0.2.2 ; zonetext: allow expired", []),
+    ("", [*ZONE, "--dnssec"], "a A 192.0.2.2 ; zonetext: allow expired", ["no-dnskey", "unused-allow"]),
+    ("", ZONE, RRSIG + " ; zonetext: allow no-dnskey", []),
 ]
 # A `.zonetext.toml` that can't be used, and the end of the message.
 MALFORMED = [
-    ("alow = []\n", "unknown key 'alow': wants allow, base, deny, include, max-ttl or skip-type"),
+    ("alow = []\n", "unknown key 'alow': wants allow, base, deny, dnssec, include, max-ttl or skip-type"),
     ('allow = "ttl"\n', "allow: wants a list of strings"),
     ("allow = [1]\n", "allow: wants a list of strings"),
     ('allow = ["tll"]\n', "allow: unknown code 'tll'"),
     ('deny = ["ttl", "x y"]\n', "deny: unknown code 'x y'"),
     ("base = 1\n", "base: wants a string"),
+    ("dnssec = 1\n", "dnssec: wants true or false"),
     ('skip-type = "MX"\n', "skip-type: wants a list of strings"),
     ("max-ttl = true\n", "max-ttl: wants a time in seconds, or as \"7d\" or \"12h30m\""),
     ("max-ttl = -1\n", "max-ttl: wants a time in seconds, or as \"7d\" or \"12h30m\""),

@@ -27,6 +27,9 @@ UNDERLINE = GOOD + "_x A 192.0.2.3\n"
 LONG = GOOD + "w 7200 A 192.0.2.3\n"
 INCLUDER = GOOD + "$INCLUDE part\n"
 PART = "w A 192.0.2.3\n"
+# the signature expired long ago, and is by no key
+SIGNED = GOOD + "@ RRSIG SOA 13 1 60 20200101000000 20191201000000 1 a. " + 86 * "A" + "==\n"
+KEYLESS = "signed, and no DNSKEY at the apex [no-dnskey]"
 REVERSE = "$TTL 60\n@ SOA ns.o. h.o. 1 7200 1800 1209600 3600\n@ NS ns.o.\n@ NS ns.p.\n"
 
 
@@ -105,6 +108,16 @@ ROWS = [
                "f": GOOD, "g": GOOD, "h": BAD}, "--conf c", 1, [summary(3, 1, 0)], ("named", False)),
     ("in-view", {"c": 'view "i" {' + zone("a", "f") + '}; view "e" { zone "a" { in-view "i"; }; };', "f": GOOD}, "--conf c", 0,
      ["=", "left out: 1 of another view", summary(1, 0, 0)], ("named", True)),
+    ("a signed zone", {"c": zone("a", "f"), "f": SIGNED}, "--conf c", 1, [f"f:7:1: error: a. RRSIG: {KEYLESS}", summary(1, 1, 0)], None),
+    *(("a zone that the server signs: " + more, {"c": zone("a", "f", more), "f": SIGNED}, "--conf c", 0, ["=", summary(1, 0, 0)], None)
+      for more in ("inline-signing yes;", "dnssec-policy default;", "auto-dnssec maintain;", "AUTO-DNSSEC Allow;")),
+    *(("a zone that the server doesn't sign: " + more, {"c": zone("a", "f", more), "f": SIGNED}, "--conf c", 1, [KEYLESS], None)
+      for more in ("inline-signing no;", "dnssec-policy none;", 'dnssec-policy "none";', "auto-dnssec off;")),
+    ("zones that the server signs by options and views", {"c": "options { dnssec-policy x; }; " + 'view "v" { dnssec-policy none; ' + zone("a", "f")
+                                                          + "}; " + 'view "w" {' + zone("b", "g") + "};", "f": SIGNED, "g": SIGNED}, "--conf c", 1,
+     ["f: zone a: 1 error, 0 warnings", summary(2, 1, 0)], None),
+    ("a zone that the server signs, and asked", {"c": zone("a", "f", "inline-signing yes;"), "f": SIGNED}, "--dnssec --conf c", 1, [KEYLESS], None),
+    ("inline-signing without a value", {"c": zone("a", "f", "inline-signing;"), "f": GOOD}, "--conf c", 2, ["missing value ';'"], ("named", False)),
     ("include in the folder in force", {"c": 'include "first"; options { directory "%d/z"; }; include "more"; ',
                                         "first": zone("a", "f"), "z/more": zone("b", "g"), "z/f": GOOD, "z/g": BAD}, "--conf c", 1,
      ["g: zone b: 1 error, 0 warnings", summary(2, 1, 0)], ("named", False)),

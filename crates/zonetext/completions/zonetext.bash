@@ -25,7 +25,7 @@ _zonetext() {
     fi
     case ${COMP_WORDS[1]} in
         check)
-            options='--text --zone --zone-from-name --include --base --stdin-name --dnssec --within --now --deny --allow --strict'
+            options='--text --zone --zone-from-name --include --base --stdin-name --dnssec --no-dnssec --within --now --deny --allow --strict'
             options+=' --root --part --skip-type --errors-only --summary --baseline --write-baseline'
             options+=' --conf --zones --name-form --recursive --max-ttl --max-generate --max-entry --class --format --json --excerpt --max --color --verbose --quiet -v'
             ;;

@@ -7,14 +7,15 @@ use finding_codes::code::Code;
 use finding_codes::policy::Policy;
 use finding_codes::table::{COUNT, row_at};
 use finding_texts::similar::edits_between;
-use rdata_values::Class;
+use rdata_values::{Class, Date};
 use std::alloc::{AllocError, Global};
 use std::fs::metadata;
 use std::io::{IsTerminal, Write};
 use std::{env, io};
-use zone_dnssec::Times;
+use zone_dnssec::{SigningDemand, Times};
 use zone_reader::{NameBuffer, State};
 use zonetext_checker::checker::{Checker, Limits};
+use zonetext_checker::signature_checks::{SignatureChecks, ZoneSigning};
 use zonetext_files::file_part::{FilePart, StatedPart};
 use zonetext_files::files::check_text;
 use zonetext_files::generated::{GenerateMode, GenerateOptions};
@@ -33,7 +34,7 @@ use zonetext_zones::options::{
 };
 use zonetext_zones::part_option::part_of;
 use zonetext_zones::settings::{Settings, Unusable, settings_path};
-use zonetext_zones::times::times_of;
+use zonetext_zones::times::{dnssec_of, times_of};
 use zonetext_zones::zone_names::Zone;
 use zonetext_zones::zone_sources::HostNameCheck;
 
@@ -70,8 +71,12 @@ pub struct Options<'o> {
     /// The types whose entries are skipped.
     pub skipped: &'o [&'o str],
     pub zone: Zone<'o>,
-    /// The times for signatures, if they are checked.
+    /// The times for signatures, if a zone may be checked as a signed one.
     pub times: Option<Times>,
+    /// Whether each zone must be signed, or no signatures are checked.
+    pub dnssec: Option<bool>,
+    /// Whether the server signs the zone itself.
+    pub is_signed_by_server: bool,
     pub is_verbose: bool,
     /// Whether only the text is checked.
     pub is_text: bool,
@@ -239,6 +244,8 @@ fn options_of<'o>(
         skipped: inner.get_strs("skip-type").unwrap_or(&[]),
         zone,
         times: times_of(rt, inner, is_many || zone.is_set())?,
+        dnssec: dnssec_of(inner),
+        is_signed_by_server: false,
         is_verbose: inner.get_flag("verbose"),
         is_text,
         is_quiet: inner.get_flag("quiet"),
@@ -248,25 +255,76 @@ fn options_of<'o>(
     })
 }
 
+/// Returns which zones are checked as signed: by the options and the settings, and else those that are,
+/// unless the server signs the zone itself.
+fn demand_of(dnssec: Option<bool>, is_signed_by_server: bool) -> SigningDemand {
+    match dnssec {
+        Some(true) => SigningDemand::Always,
+        Some(false) => SigningDemand::Never,
+        None if is_signed_by_server => SigningDemand::Never,
+        None => SigningDemand::IfSigned,
+    }
+}
+
+/// Returns what is known of the signatures of a zone, for the end of its line.
+fn signing_text(alloc: Global, signing: ZoneSigning) -> Result<String, AllocError> {
+    match signing {
+        ZoneSigning::Unsigned => String::from_str(alloc, ", unsigned"),
+        ZoneSigning::Signed {
+            until: Some(until),
+            ..
+        } => {
+            let time = Date::from_seconds(until).to_string(alloc)?;
+            let time = time.as_str();
+            format!(in alloc; ", signed until {time}")
+        }
+        _ => Ok(String::new(alloc)),
+    }
+}
+
+/// Returns which rules of signed zones are left out, as a line, or nothing.
+fn omitted_text<'t>(signing: ZoneSigning, is_server: bool) -> Option<&'t str> {
+    match signing {
+        ZoneSigning::Signed {
+            is_incomplete: true,
+            ..
+        } => Some("being signed: rules of what is missing are left out"),
+        ZoneSigning::Unknown if is_server => Some("signed by the server: signatures not checked"),
+        _ => None,
+    }
+}
+
 /// Reports how much was read: on standard output, unless findings go there.
 fn report_zone(
     rt: &HostRuntime,
     file: &str,
     checker: &Checker,
     form: Form,
+    is_server: bool,
 ) -> Result<(), RunError> {
     let records = checker.records;
     let file = Shown(file);
+    let signing = checker.signatures.signing;
+    let end = signing_text(rt.alloc(), signing)?;
+    let end = end.as_str();
     let text = match &checker.seen {
         Some(seen) => {
             let (zone, serial) = (DisplayWithDot::new(&seen.zone), seen.serial);
-            format!(in rt.alloc(); "{file}: zone {zone}, serial {serial}, {records} records\n")?
+            format!(in rt.alloc();
+                "{file}: zone {zone}, serial {serial}, {records} records{end}\n"
+            )?
         }
-        None => format!(in rt.alloc(); "{file}: {records} records\n")?,
+        None => format!(in rt.alloc(); "{file}: {records} records{end}\n")?,
     };
+    let omitted = match omitted_text(signing, is_server) {
+        Some(omitted) => format!(in rt.alloc(); "{file}: {omitted}\n")?,
+        None => String::new(rt.alloc()),
+    };
+    let (text, omitted) = (text.as_str(), omitted.as_str());
+    let lines = format!(in rt.alloc(); "{text}{omitted}")?;
     match form {
-        Form::Machine(_) => rt.stderr().write_all(text.as_bytes())?,
-        Form::Lines { .. } => rt.stdout().write_all(text.as_bytes())?,
+        Form::Machine(_) => rt.stderr().write_all(lines.as_bytes())?,
+        Form::Lines { .. } => rt.stdout().write_all(lines.as_bytes())?,
     }
     Ok(())
 }
@@ -284,6 +342,7 @@ fn settings_of(rt: &HostRuntime, path: &str, options: &Options) -> Result<Settin
         HostNameCheck::Ignores => settings.allowed.push(Code::HostName)?,
     }
     settings.max_ttl = options.max_ttl.or(settings.max_ttl);
+    settings.dnssec = options.dnssec.or(settings.dnssec);
     for folder in options.folders {
         settings.folders.push(String::from_str(alloc, folder)?)?;
     }
@@ -353,7 +412,8 @@ fn check_entries<'c>(
         eprintln!(rt; "rules of the zone not checked: --zone ORIGIN or --zone-from-name")?;
     }
     if options.is_verbose && is_read {
-        report_zone(rt, name, checker, options.form)?;
+        let is_server = options.is_signed_by_server && settings.dnssec.is_none();
+        report_zone(rt, name, checker, options.form, is_server)?;
     }
     Ok(is_read)
 }
@@ -472,6 +532,10 @@ fn check_with<'c>(
     let mut checker = Checker::new(rt, reporter, limits, zone);
     checker.findings.reporter.before.has_finding = totals.has_finding;
     checker.skipped = settings.skipped.as_slice();
+    let demand = demand_of(settings.dnssec, options.is_signed_by_server);
+    checker.signatures = SignatureChecks::new(demand, options.is_verbose);
+    checker.signatures.omits_expired = policy.allowed.contains(&Code::Expired);
+    checker.signatures.omits_early = policy.allowed.contains(&Code::NotYetValid);
     if let Some(size) = size_of(rt, file) {
         checker.expect(size);
     }

@@ -24,7 +24,7 @@ use zonetext_zones::part_option::PART;
 use zonetext_zones::zone_names::{ZONE, ZONE_FROM_NAME};
 
 /// The options of `check` about records, which conflict with `--text`.
-const OF_RECORDS: [&str; 16] = [
+const OF_RECORDS: [&str; 19] = [
     "zone",
     "zone-from-name",
     "conf",
@@ -34,6 +34,9 @@ const OF_RECORDS: [&str; 16] = [
     "name-form",
     "recursive",
     "dnssec",
+    "no-dnssec",
+    "within",
+    "now",
     "include",
     "base",
     "class",
@@ -44,7 +47,7 @@ const OF_RECORDS: [&str; 16] = [
 ];
 
 /// The options of `check` about whole files and zones, which conflict with `--part`.
-const OF_WHOLE_ZONES: [&str; 8] = [
+const OF_WHOLE_ZONES: [&str; 11] = [
     "text",
     "zone",
     "zone-from-name",
@@ -53,6 +56,9 @@ const OF_WHOLE_ZONES: [&str; 8] = [
     "name-form",
     "recursive",
     "dnssec",
+    "no-dnssec",
+    "within",
+    "now",
 ];
 
 /// The argument and the option of `check`, which also checks folders.
@@ -103,10 +109,17 @@ const OF_CHECK: [ArgRow; 7] = [
 ];
 
 /// The options for signed zones.
-const SIGNATURES: [ArgRow; 3] = [
+const SIGNATURES: [ArgRow; 4] = [
     ArgRow {
         name: "dnssec",
-        help: "also check signatures, NSEC and NSEC3",
+        help: "each zone must be signed (default: signatures, NSEC\nand NSEC3 are checked if the zone is signed)",
+        heading: "Signed zones",
+        conflicts: &["no-dnssec"],
+        ..FLAG
+    },
+    ArgRow {
+        name: "no-dnssec",
+        help: "don't check signatures, NSEC and NSEC3",
         heading: "Signed zones",
         ..FLAG
     },
@@ -115,7 +128,6 @@ const SIGNATURES: [ArgRow; 3] = [
         value_name: &["TIME"],
         help: "also report signatures that expire within a time, as 7d",
         heading: "Signed zones",
-        needs: &["dnssec"],
         ..VALUED
     },
     ArgRow {
@@ -123,7 +135,6 @@ const SIGNATURES: [ArgRow; 3] = [
         value_name: &["TIME"],
         help: "check at this time, as 20260131235959 or in seconds\nsince 1970",
         heading: "Signed zones",
-        needs: &["dnssec"],
         ..VALUED
     },
 ];

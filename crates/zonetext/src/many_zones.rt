@@ -85,6 +85,7 @@ fn add_file(alloc: Global, file: &str, sources: &mut Sources) -> Result<(), Sour
         base: None,
         max_ttl: None,
         host_names: HostNameCheck::Loads,
+        is_signed_by_server: false,
         file_place: None,
     })?;
     Ok(())
@@ -293,6 +294,7 @@ fn check_source(
         denied: options.denied,
         allowed: options.allowed,
         host_names: source.host_names,
+        is_signed_by_server: source.is_signed_by_server,
         is_strict: options.is_strict,
         class: source.class.unwrap_or(options.class),
         max_ttl: options.max_ttl.or(source.max_ttl),
@@ -305,6 +307,7 @@ fn check_source(
         skipped: options.skipped,
         zone,
         times: options.times,
+        dnssec: options.dnssec,
         is_verbose: options.is_verbose,
         is_text: options.is_text,
         is_quiet: options.is_quiet,

@@ -133,12 +133,20 @@ pub fn is_of_unsigned_name(held: &SortedZone, found: &[SecurityFinding], index: 
         return false;
     }
     let (first, past) = held.records.places_at(finding.record);
-    // Findings are in the order of records. One about a name is at its first record.
+    // Findings are in the order of records. One about a name is at its first record, after others of it.
+    for other in found.get(..index).unwrap_or(&[]).iter().rev() {
+        if other.record < first {
+            break;
+        }
+        if other.rule == Code::Unsigned {
+            return true;
+        }
+    }
     for other in found.iter().skip(index) {
         if other.record >= past {
             return false;
         }
-        if other.rule == Code::Unsigned && other.record >= first {
+        if other.rule == Code::Unsigned {
             return true;
         }
     }

@@ -8,6 +8,7 @@ use crate::held_zone::{HeldZone, RecordLocation, SortedZone};
 use crate::lone_rules::{begins_local, breaks_none};
 use crate::refusals::{ANY_TYPE, begins_with_marker, is_like_ttl, is_of_type, refused_type};
 use crate::scan::{may_begin_comment, needs_lint};
+use crate::signature_checks::SignatureChecks;
 use dns_lexer::entry_tokens::EntryToken;
 use dns_wire::Name;
 use finding_codes::code::{Code, Scope};
@@ -22,7 +23,7 @@ use zone_check::name_findings::OriginState;
 use zone_check::octet_findings::ReportedOctets;
 use zone_check::scan::{OctetScan, scan_octets};
 use zone_check::value_findings::data_code;
-use zone_dnssec::Times;
+use zone_dnssec::{SigningDemand, Times};
 use zone_format::place::LocatedOffset;
 use zone_reader::{NameBuffer, ParsedEntry, directive_word};
 use zone_stream::BlockRefusal;
@@ -56,7 +57,7 @@ pub struct Limits {
     pub is_strict: bool,
     /// Whether valid text that looks like a slip is reported.
     pub reports_slips: bool,
-    /// The times for signatures, if the zone must be signed.
+    /// The times for signatures, if a zone may be checked as a signed one.
     pub times: Option<Times>,
     /// Whether the first file is standard input, which can't be read again.
     pub is_standard: bool,
@@ -99,6 +100,7 @@ pub struct Checker<'a> {
     lacks_ttl: bool,
     /// The types whose entries are skipped.
     pub skipped: &'a [String],
+    pub signatures: SignatureChecks,
     /// Whether a file was skipped because it is UTF-16.
     is_cut: bool,
     /// Whether records are unread: a file is not included, an origin is rejected, or an entry is
@@ -197,6 +199,7 @@ impl<'a> Checker<'a> {
             has_reported_owner: false,
             lacks_ttl: false,
             skipped: &[],
+            signatures: SignatureChecks::new(SigningDemand::IfSigned, false),
             is_cut: false,
             has_gap: false,
         }
@@ -404,7 +407,7 @@ impl<'a> Checker<'a> {
             Scope::Records => !self.limits.is_text,
             Scope::MaxTtl => self.limits.max_ttl.is_some(),
             Scope::Zone => is_whole,
-            Scope::Signed => is_whole && self.limits.times.is_some(),
+            Scope::Signed => is_whole && self.signatures.is_checked,
         }
     }
 

@@ -29,6 +29,9 @@ use zonetext_findings::octet_texts::fault_text;
 use zonetext_findings::reporter::{FindingLocation, FindingText, Reporter};
 use zonetext_findings::subjects::{Subject, Text};
 
+/// The code by which warnings are counted whose code is that of errors.
+const MINOR: Code = Code::ExpiresSoon;
+
 /// Greatest number of records among which names like others are looked for, in all.
 const MOST_SEARCHED: usize = 200_000;
 
@@ -588,6 +591,33 @@ impl<'a> Findings<'a> {
     ) -> Result<(), RunError> {
         match self.count_at(held, code, record, at_target) {
             Some(counted) => self.show_at(held, counted, code, record, at_target, text),
+            None => Ok(()),
+        }
+    }
+
+    /// Reports a finding at a record as a warning, though others with its code are errors. Options and
+    /// exceptions with that code hold for it too. `is_omitted` says whether options omit it.
+    pub fn report_minor(
+        &mut self,
+        held: &SortedZone,
+        code: Code,
+        is_omitted: bool,
+        record: usize,
+        text: &Text,
+    ) -> Result<(), RunError> {
+        if is_omitted {
+            return Ok(());
+        }
+        let is_denied = self.reporter.denies(code);
+        self.select_exceptions(location_of(held, Some(record)));
+        if is_denied || self.reporter.exceptions.excepts(code) {
+            return self.report_at(held, code, Some(record), false, text);
+        }
+        match self.count_at(held, MINOR, Some(record), false) {
+            Some(counted) => {
+                let counted = KeptFinding { code, ..counted };
+                self.show_at(held, counted, code, Some(record), false, text)
+            }
             None => Ok(()),
         }
     }

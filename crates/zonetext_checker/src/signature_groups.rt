@@ -5,6 +5,9 @@ use rdata_values::{Date, RecordType};
 use std::alloc::{AllocError, Global};
 use std::cmp::Ordering;
 use zone_dnssec::SecurityFinding;
+use zone_dnssec::current::is_beside_current;
+use zone_dnssec::keys::Key;
+use zone_rules::ZoneRecords;
 use zone_rules::zone_records::OwnerBuffer;
 use zonetext_findings::subjects::Text;
 
@@ -19,6 +22,8 @@ const INCEPTION: usize = 5;
 #[derive(Clone, Copy)]
 pub struct Group {
     pub rule: Code,
+    /// Whether the RRset has another signature that is valid.
+    pub is_beside: bool,
     covered: u16,
     seconds: u32,
     /// Index of the first of the records, in the order of the files.
@@ -45,8 +50,23 @@ fn long_number(octets: Option<&[u8]>) -> u32 {
     }
 }
 
+/// Returns whether the RRset of a signature that is not valid has another one that is.
+fn is_beside(keys: &[Key], instant: u32, zone: &SortedZone, finding: &SecurityFinding) -> bool {
+    if finding.rule == Code::ExpiresSoon || finding.record >= zone.records.len() {
+        return false;
+    }
+    let mut owner = OwnerBuffer::new();
+    let record = zone.records.record(finding.record, &mut owner);
+    is_beside_current(keys, instant, &zone.records, &record)
+}
+
 /// Returns the finding about one signature, if its rule is about its time.
-fn group_of(finding: &SecurityFinding, zone: &SortedZone) -> Option<Group> {
+fn group_of(
+    finding: &SecurityFinding,
+    zone: &SortedZone,
+    keys: &[Key],
+    instant: u32,
+) -> Option<Group> {
     if !finding.rule.is_of_time() {
         return None;
     }
@@ -59,6 +79,7 @@ fn group_of(finding: &SecurityFinding, zone: &SortedZone) -> Option<Group> {
     };
     Some(Group {
         rule: finding.rule,
+        is_beside: is_beside(keys, instant, zone, finding),
         covered: short_number(record.data.part(COVERED)),
         seconds: long_number(record.data.part(time)),
         record: finding.record,
@@ -80,6 +101,7 @@ fn number_of(rule: Code) -> u8 {
 fn compare_texts(left: &Group, right: &Group) -> Ordering {
     number_of(left.rule)
         .cmp(&number_of(right.rule))
+        .then(u8::from(left.is_beside).cmp(&u8::from(right.is_beside)))
         .then(left.covered.cmp(&right.covered))
         .then(left.seconds.cmp(&right.seconds))
 }
@@ -108,11 +130,13 @@ pub fn groups_of(
     alloc: Global,
     found: &[SecurityFinding],
     zone: &SortedZone,
+    keys: &[Key],
+    instant: u32,
     joins_equal: bool,
 ) -> Result<Vec<Group>, AllocError> {
     let mut single = Vec::new(alloc);
     for finding in found {
-        if let Some(group) = group_of(finding, zone) {
+        if let Some(group) = group_of(finding, zone, keys, instant) {
             single.push(group)?;
         }
     }
@@ -159,11 +183,16 @@ impl Group {
             Code::ExpiresSoon => "expires soon",
             _ => "is not valid yet",
         };
+        let end = if self.is_beside {
+            ", beside a valid one"
+        } else {
+            ""
+        };
         let count = self.count;
         let message = if count > 1 {
-            format!(in alloc; "signature of {rtype} {what}: {time} ({count} signatures)")?
+            format!(in alloc; "signature of {rtype} {what}: {time} ({count} signatures){end}")?
         } else {
-            format!(in alloc; "signature of {rtype} {what}: {time}")?
+            format!(in alloc; "signature of {rtype} {what}: {time}{end}")?
         };
         Ok(Text::new(alloc, message))
     }

@@ -72,6 +72,7 @@ impl<'l> Line<'l> {
             base: None,
             max_ttl: None,
             host_names: HostNameCheck::Loads,
+            is_signed_by_server: false,
             file_place: Some(place),
         })
     }

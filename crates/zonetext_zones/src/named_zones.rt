@@ -429,14 +429,15 @@ impl<'r> NamedReader<'r> {
         let alloc = self.rt.alloc();
         let directory = self.directory.as_str();
         let base = if directory.is_empty() { "." } else { directory };
-        let check_names = zone.settings.settings.within(&outer.settings).check_names;
+        let settings = zone.settings.settings.within(&outer.settings);
         Ok(ZoneSource {
             zone: Some(String::from_str(alloc, zone.name.as_str())?),
             file: self.path(zone.file.as_str())?,
             class: zone.class.or(outer.class),
             base: Some(String::from_str(alloc, base)?),
             max_ttl: zone.max_ttl.within(outer.max_ttl).seconds(),
-            host_names: host_names_of(check_names),
+            host_names: host_names_of(settings.check_names),
+            is_signed_by_server: settings.signs_zones(),
             file_place: copy_of_place(&zone.file_place)?,
         })
     }

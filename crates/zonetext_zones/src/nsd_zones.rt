@@ -263,6 +263,7 @@ impl<'r> NsdReader<'r> {
             base: Some(String::from_str(alloc, base)?),
             max_ttl: None,
             host_names: HostNameCheck::Loads,
+            is_signed_by_server: false,
             file_place: copy_of_place(&zone.file_place)?,
         })
     }

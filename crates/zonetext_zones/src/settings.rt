@@ -15,7 +15,7 @@ use zonetext_files::stop::EXIT_IO;
 const NAME: &str = ".zonetext.toml";
 
 /// Its keys.
-const KEYS: &str = "allow, base, deny, include, max-ttl or skip-type";
+const KEYS: &str = "allow, base, deny, dnssec, include, max-ttl or skip-type";
 
 /// The settings of a folder.
 #[derive(Drop)]
@@ -27,6 +27,8 @@ pub struct Settings {
     /// The directory for relative paths of included files.
     pub base: Option<String>,
     pub max_ttl: Option<u32>,
+    /// Whether each zone must be signed, or no signatures are checked.
+    pub dnssec: Option<bool>,
     /// The types whose entries are skipped.
     pub skipped: Vec<String>,
 }
@@ -159,6 +161,7 @@ impl Settings {
             folders: Vec::new(alloc),
             base: None,
             max_ttl: None,
+            dnssec: None,
             skipped: Vec::new(alloc),
         }
     }
@@ -178,6 +181,13 @@ impl Settings {
                 self.max_ttl = Some(max_ttl_of(alloc, key, value)?);
                 Ok(())
             }
+            "dnssec" => match value.as_bool() {
+                Some(is_signed) => {
+                    self.dnssec = Some(is_signed);
+                    Ok(())
+                }
+                None => Err(unwanted(alloc, key, "true or false")),
+            },
             "include" => {
                 for path in &strings_of(alloc, key, value)? {
                     self.folders.push(below(alloc, folder, path)?)?;

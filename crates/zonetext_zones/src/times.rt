@@ -31,20 +31,36 @@ pub fn instant_of<'o>(rt: &HostRuntime, text: Option<&'o str>) -> Result<u32, Us
     }
 }
 
-/// Returns the times for signatures, if they are checked, which requires a zone.
+/// Returns whether the options say that each zone must be signed, or that no signatures are checked.
+pub fn dnssec_of(inner: &ArgMatches) -> Option<bool> {
+    if inner.get_flag("dnssec") {
+        return Some(true);
+    }
+    if inner.get_flag("no-dnssec") {
+        Some(false)
+    } else {
+        None
+    }
+}
+
+/// Returns the times for signatures, if a zone may be checked as a signed one.
 pub fn times_of<'o>(
     rt: &HostRuntime,
     inner: &'o ArgMatches,
     has_zone: bool,
 ) -> Result<Option<Times>, Usage<'o>> {
-    if !inner.get_flag("dnssec") {
-        return Ok(None);
-    }
-    if !has_zone {
+    if inner.get_flag("dnssec") && !has_zone {
         return Err(Usage::NoZone);
     }
-    Ok(Some(Times {
-        instant: instant_of(rt, inner.get_str("now"))?,
-        margin: seconds_of(inner.get_str("within"), "--within")?.unwrap_or(0),
-    }))
+    let margin = seconds_of(inner.get_str("within"), "--within")?.unwrap_or(0);
+    let now = inner.get_str("now");
+    if !has_zone && now.is_none() {
+        return Ok(None);
+    }
+    let instant = instant_of(rt, now)?;
+    if has_zone {
+        Ok(Some(Times { instant, margin }))
+    } else {
+        Ok(None)
+    }
 }

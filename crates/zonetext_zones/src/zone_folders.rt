@@ -53,6 +53,7 @@ fn source_of(alloc: Global, zone: &str, file: String) -> Result<ZoneSource, Allo
         base: None,
         max_ttl: None,
         host_names: HostNameCheck::Loads,
+        is_signed_by_server: false,
         file_place: None,
     })
 }

@@ -39,6 +39,8 @@ pub struct ZoneSource {
     pub max_ttl: Option<u32>,
     /// What the server does with names of hosts that are not host names.
     pub host_names: HostNameCheck,
+    /// Whether the server signs the zone itself.
+    pub is_signed_by_server: bool,
     /// Where a configuration or a list names the file, if one does.
     pub file_place: Option<FilePlace>,
 }
