@@ -1,4 +1,5 @@
 //! The command `check`: reports what is wrong with zone files.
+use crate::run_order::{order_of_files, report_run};
 use crate::unread::{UnreadFile, report_unread};
 use crate::{baseline_file, many_zones};
 use clap::ArgMatches;
@@ -87,6 +88,8 @@ pub struct Options<'o> {
     pub omits_warnings: bool,
     /// Where a configuration or a list names the file, if one does.
     pub file_place: Option<&'o FilePlace>,
+    /// Number of the views before that of the zone, if it is in one.
+    pub view: Option<usize>,
 }
 
 /// Returns the name of the code to which the fewest edits lead from a word, if they are few.
@@ -252,6 +255,7 @@ fn options_of<'o>(
         is_many: false,
         omits_warnings: inner.get_flag("errors-only"),
         file_place: None,
+        view: None,
     })
 }
 
@@ -331,7 +335,7 @@ fn report_zone(
 
 /// Returns the settings of a file's folder, with the options of the command line added to them: an
 /// option with one value comes before that of the settings.
-fn settings_of(rt: &HostRuntime, path: &str, options: &Options) -> Result<Settings, Unusable> {
+pub fn settings_of(rt: &HostRuntime, path: &str, options: &Options) -> Result<Settings, Unusable> {
     let alloc = rt.alloc();
     let mut settings = Settings::read(rt, path)?;
     settings.allowed.extend_from_slice(options.allowed)?;
@@ -445,7 +449,11 @@ fn check_file(
 
 /// Returns what the keys of findings have in place of a zone: its name in lower case, or the file if
 /// no zone is set.
-fn zone_key(alloc: Global, file: &str, zone: &Option<NameBuffer>) -> Result<String, AllocError> {
+pub fn zone_key(
+    alloc: Global,
+    file: &str,
+    zone: &Option<NameBuffer>,
+) -> Result<String, AllocError> {
     let Some(zone) = zone else {
         let file = Shown(file);
         return format!(in alloc; "{file}");
@@ -536,12 +544,14 @@ fn check_with<'c>(
     checker.signatures = SignatureChecks::new(demand, options.is_verbose);
     checker.signatures.omits_expired = policy.allowed.contains(&Code::Expired);
     checker.signatures.omits_early = policy.allowed.contains(&Code::NotYetValid);
+    checker.run = totals.run_in(options.view);
     if let Some(size) = size_of(rt, file) {
         checker.expect(size);
     }
     let checked = check_entries(rt, file, options, settings, &mut checker, state, part);
     let ended = checker.findings.reporter.end_file();
     totals.add(&mut checker.findings.reporter);
+    totals.run = checker.run.take();
     let is_read = match checked {
         Ok(is_read) => is_read,
         Err(stop) => return exit_status(rt, name, stop),
@@ -641,9 +651,12 @@ fn check_each(
     stated: Option<&StatedPart>,
 ) -> io::Result<u8> {
     let mut status = totals.start(rt);
-    for file in files {
-        status = check_argument(rt, file, options, totals, stated)?.max(status);
+    for number in &order_of_files(rt.alloc(), files, options, totals)? {
+        if let Some(file) = files.get(*number) {
+            status = check_argument(rt, file, options, totals, stated)?.max(status);
+        }
     }
+    status = report_run(rt, files, options, totals)?.max(status);
     Ok(totals.end(rt).max(status))
 }
 

@@ -9,6 +9,7 @@ mod cut_args;
 mod expand;
 mod many_zones;
 mod record_args;
+mod run_order;
 mod serial_args;
 mod unread;
 

@@ -1,5 +1,6 @@
 //! The command `check` over many zones: those of folders, of a configuration or of a list.
 use crate::check::{Options, check_argument};
+use crate::run_order::{order_of_sources, report_sources};
 use clap::ArgMatches;
 use server_config::{is_name_form, is_nsd_config};
 use std::alloc::{AllocError, Global};
@@ -87,6 +88,7 @@ fn add_file(alloc: Global, file: &str, sources: &mut Sources) -> Result<(), Sour
         host_names: HostNameCheck::Loads,
         is_signed_by_server: false,
         file_place: None,
+        view: None,
     })?;
     Ok(())
 }
@@ -273,13 +275,8 @@ fn report_zones(
     eprintln!(rt; "{zones} zone{plural}, {failed} with errors, {warnings} warning{all}")
 }
 
-/// Checks a zone, and returns the status. Options with one value come before those of the zone.
-fn check_source(
-    rt: &HostRuntime,
-    source: &ZoneSource,
-    options: &Options,
-    totals: &mut Totals,
-) -> io::Result<u8> {
+/// Returns the options for a zone. Those with one value come before those of the zone.
+pub fn own_options<'o>(source: &'o ZoneSource, options: &'o Options<'o>) -> Options<'o> {
     let base = match &source.base {
         Some(base) => Some(base.as_str()),
         None => None,
@@ -288,7 +285,7 @@ fn check_source(
         Some(zone) => Zone::Set(zone.as_str()),
         None => options.zone,
     };
-    let own = Options {
+    Options {
         form: options.form,
         most: options.most,
         denied: options.denied,
@@ -314,8 +311,37 @@ fn check_source(
         is_many: true,
         omits_warnings: options.omits_warnings,
         file_place: source.file_place.as_ref(),
-    };
+        view: source.view,
+    }
+}
+
+/// Checks a zone, and returns the status.
+fn check_source(
+    rt: &HostRuntime,
+    source: &ZoneSource,
+    options: &Options,
+    totals: &mut Totals,
+) -> io::Result<u8> {
+    let own = own_options(source, options);
     check_argument(rt, source.file.as_str(), &own, totals, None)
+}
+
+/// Checks zones, and returns the status of each.
+fn check_each_source(
+    rt: &HostRuntime,
+    sources: &Sources,
+    options: &Options,
+    totals: &mut Totals,
+) -> io::Result<Vec<u8>> {
+    let zones = sources.zones.as_slice();
+    let mut statuses = vec![in rt.alloc(); 0; zones.len()]?;
+    for number in &order_of_sources(rt.alloc(), zones, options, totals)? {
+        if let (Some(source), Some(status)) = (zones.get(*number), statuses.get_mut(*number)) {
+            *status = check_source(rt, source, options, totals)?;
+        }
+    }
+    report_sources(rt, zones, options, totals, &mut statuses)?;
+    Ok(statuses)
 }
 
 /// Checks zones, and returns the greatest status.
@@ -328,12 +354,11 @@ fn check_sources(
     totals.is_of_zones = true;
     let mut status = totals.start(rt);
     let mut failed: usize = 0;
-    for source in &sources.zones {
-        let checked = check_source(rt, source, options, totals)?;
-        if checked != 0 {
+    for checked in &check_each_source(rt, sources, options, totals)? {
+        if *checked != 0 {
             failed = failed.saturating_add(1);
         }
-        status = checked.max(status);
+        status = (*checked).max(status);
     }
     status = totals.end(rt).max(status);
     report_journals(rt, totals)?;

@@ -1,7 +1,9 @@
 //! Checks the entries of zone files, for the command `check`.
+mod cut_checks;
 mod record_checks;
 mod zone_checks;
 
+use self::cut_checks::is_between_zones;
 use crate::finding_kinds::{has_no_origin, is_bare_name, is_unclosed};
 use crate::finding_reports::Findings;
 use crate::held_zone::{HeldZone, RecordLocation, SortedZone};
@@ -27,6 +29,7 @@ use zone_dnssec::{SigningDemand, Times};
 use zone_format::place::LocatedOffset;
 use zone_reader::{NameBuffer, ParsedEntry, directive_word};
 use zone_stream::BlockRefusal;
+use zonetext_cuts::run_zones::RunZones;
 use zonetext_files::generated::RejectedDirective;
 use zonetext_files::include_error::IncludeError;
 use zonetext_files::open_file::first_place;
@@ -106,6 +109,8 @@ pub struct Checker<'a> {
     /// Whether records are unread: a file is not included, an origin is rejected, or an entry is
     /// too long.
     has_gap: bool,
+    /// The zones of the run, if they are compared. They are passed from zone to zone.
+    pub run: Option<RunZones>,
 }
 
 /// Returns the word of a directive with which an entry begins, if it begins with one.
@@ -202,6 +207,7 @@ impl<'a> Checker<'a> {
             signatures: SignatureChecks::new(SigningDemand::IfSigned, false),
             is_cut: false,
             has_gap: false,
+            run: None,
         }
     }
 
@@ -403,6 +409,8 @@ impl<'a> Checker<'a> {
     fn looks_for(&self, code: Code, has_zone: bool) -> bool {
         let is_whole = has_zone && !self.has_gap;
         match code.scope() {
+            // (other zones decide whether there is one)
+            _ if is_between_zones(code) => false,
             Scope::Text => self.reports_octets(code),
             Scope::Records => !self.limits.is_text,
             Scope::MaxTtl => self.limits.max_ttl.is_some(),

@@ -129,6 +129,11 @@ impl<'a> Findings<'a> {
         }
     }
 
+    /// Returns the allocator.
+    pub fn alloc(&self) -> Global {
+        self.alloc
+    }
+
     /// Reports a finding that only has a code.
     pub fn report(&mut self, spot: FindingLocation<'_>, code: Code) -> Result<(), RunError> {
         self.reporter

@@ -3,6 +3,7 @@
 
 mod algorithm_texts;
 pub mod checker;
+pub mod cut_reports;
 mod entry_texts;
 mod file_sets;
 mod finding_kinds;

@@ -4,6 +4,7 @@ use crate::machine::{push_end, push_start};
 use crate::reporter::{Form, Reporter};
 use finding_codes::tally::Tally;
 use std::io::Write;
+use zonetext_cuts::run_zones::RunZones;
 use zonetext_files::stop::{RunError, exit_status};
 
 /// The findings of all files.
@@ -21,6 +22,8 @@ pub struct Totals {
     tally: Tally,
     /// What is counted over all files.
     pub ledger: Ledger,
+    /// The zones of the run, if one is below another.
+    pub run: Option<RunZones>,
 }
 
 impl Totals {
@@ -34,6 +37,7 @@ impl Totals {
             files: 0,
             tally: Tally::new(0),
             ledger: Ledger::new(),
+            run: None,
         }
     }
 
@@ -42,15 +46,27 @@ impl Totals {
         self.tally.warnings
     }
 
+    /// Returns the zones of the run, of which one is read that is in a view, if it is in one.
+    pub fn run_in(&mut self, view: Option<usize>) -> Option<RunZones> {
+        let mut run = self.run.take()?;
+        run.view = view;
+        Some(run)
+    }
+
     /// Adds the findings of a file, and takes back what is counted over all files.
     pub fn add(&mut self, reporter: &mut Reporter<'_>) {
+        self.files = self.files.saturating_add(1);
+        self.add_more(reporter);
+    }
+
+    /// Adds findings of a file of which others were added, and takes back what is counted over all files.
+    pub fn add_more(&mut self, reporter: &mut Reporter<'_>) {
         self.ledger = reporter.ledger.take();
         if let Some(summary) = &mut self.ledger.summary {
             summary.end_zone();
         }
         let tally = &reporter.tally;
         self.has_finding = reporter.before.has_finding;
-        self.files = self.files.saturating_add(1);
         self.tally.errors = self.tally.errors.saturating_add(tally.errors);
         self.tally.warnings = self.tally.warnings.saturating_add(tally.warnings);
     }

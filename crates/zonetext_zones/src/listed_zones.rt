@@ -74,6 +74,7 @@ impl<'l> Line<'l> {
             host_names: HostNameCheck::Loads,
             is_signed_by_server: false,
             file_place: Some(place),
+            view: None,
         })
     }
 

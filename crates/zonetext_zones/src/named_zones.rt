@@ -439,6 +439,7 @@ impl<'r> NamedReader<'r> {
             host_names: host_names_of(settings.check_names),
             is_signed_by_server: settings.signs_zones(),
             file_place: copy_of_place(&zone.file_place)?,
+            view: zone.view,
         })
     }
 

@@ -265,6 +265,7 @@ impl<'r> NsdReader<'r> {
             host_names: HostNameCheck::Loads,
             is_signed_by_server: false,
             file_place: copy_of_place(&zone.file_place)?,
+            view: None,
         })
     }
 

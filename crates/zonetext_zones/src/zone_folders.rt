@@ -55,6 +55,7 @@ fn source_of(alloc: Global, zone: &str, file: String) -> Result<ZoneSource, Allo
         host_names: HostNameCheck::Loads,
         is_signed_by_server: false,
         file_place: None,
+        view: None,
     })
 }
 

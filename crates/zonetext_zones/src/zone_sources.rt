@@ -43,6 +43,8 @@ pub struct ZoneSource {
     pub is_signed_by_server: bool,
     /// Where a configuration or a list names the file, if one does.
     pub file_place: Option<FilePlace>,
+    /// Number of the views before its own, if it is in one.
+    pub view: Option<usize>,
 }
 
 /// The zones that were found.

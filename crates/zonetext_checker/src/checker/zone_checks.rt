@@ -88,6 +88,7 @@ impl<'a> Checker<'a> {
         }
         if is_zone {
             report_hidden(self.alloc, &mut self.findings, &checked, self.has_gap)?;
+            self.compare_zones(&checked)?;
         }
         match self.limits.times {
             Some(times) if is_zone => self.check_signing(held, zone, times),
