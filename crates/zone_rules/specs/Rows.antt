@@ -564,17 +564,17 @@ equal_alias_row = refl
 abbrev back_service : Record ℕ ℕ
 back_service = entry (under (codes "x")) Rtype.https (0 ∷ 0 ∷ wire (under (codes "S")))
 
-loop_row : has_wrong_alias 3 apex (alias_service ∷ back_service ∷ []) [] alias_service ≡ true
+service_loop_row : has_wrong_alias 3 apex (alias_service ∷ back_service ∷ []) [] alias_service ≡ true
 unfolding type_shapes labels_in_octets
-loop_row = refl
+service_loop_row = refl
 
-later_in_loop_row : has_wrong_alias 3 apex (alias_service ∷ back_service ∷ []) [] back_service ≡ false
+later_in_service_loop_row : has_wrong_alias 3 apex (alias_service ∷ back_service ∷ []) [] back_service ≡ false
 unfolding type_shapes labels_in_octets
-later_in_loop_row = refl
+later_in_service_loop_row = refl
 
-no_loop_row : has_wrong_alias 3 apex (alias_service ∷ []) [] alias_service ≡ false
+no_service_loop_row : has_wrong_alias 3 apex (alias_service ∷ []) [] alias_service ≡ false
 unfolding type_shapes labels_in_octets
-no_loop_row = refl
+no_service_loop_row = refl
 
 -- ---- mail exchanges: `@ MX 0 .` alone, beside another MX, and with another preference (RFC 7505 section 3)
 
