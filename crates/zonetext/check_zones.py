@@ -215,7 +215,7 @@ def mixed_zone(length):
             f'h{own} TXT "host {own}, which is in rack {number % 97}, and has no other use than this one"\n'
             f"h{own} MX 10 h{own}\nh{own} SSHFP 4 2 {number:064x}\n"
             f'm{own} TXT "v=spf1 mx include:_spf.o. -all"\n_dmarc.m{own} TXT "v=DMARC1; p=reject; rua=mailto:m{own}@o"\n'
-            f'k._domainkey.m{own} TXT "v=DKIM1; k=rsa; p={number:0200}"\n'
+            f'k._domainkey.m{own} TXT "v=DKIM1; k=rsa; p=MIGT{number:0196}"\n'
             f"c{own} CNAME h{own}\nb{own} CNAME www.o.\n_sip._tcp.h{own} SRV 0 0 5060 h{own}\n"
             f"d{own} NS ns1.d{own}\nd{own} NS ns.o.\nd{own} DS 1 8 2 {number:064x}\nns1.d{own} A 192.0.2.3\n"
             f"old.d{own} A 192.0.2.4\nd{own} TXT {own}\n")

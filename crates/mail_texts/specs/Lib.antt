@@ -1,4 +1,9 @@
+pub mod Dkim
+pub mod Dmarc
+pub mod Joined
 pub mod Macros
 pub mod Parts
 pub mod Rows
 pub mod SpfTerms
+pub mod TagRows
+pub mod Tags

@@ -1,7 +1,7 @@
 -- Rows: terms of SPF records that are right and that are wrong, and the macros of RFC 7208 section 7, each computed.
 use Rattle.std.specs.Prelude.{◌≡◌, true, false, refl, codes}
 use Rattle.mail_texts.specs.Macros.{is_domain_spec, is_macro_string}
-use Rattle.mail_texts.specs.SpfTerms.{are_spf_terms, has_bad_spf_term, is_spf_term}
+use Rattle.mail_texts.specs.SpfTerms.{are_spf_terms, has_bad_spf_term, has_repeated_modifier, has_unused_term, is_spf_term}
 
 -- ---- terms
 
@@ -213,3 +213,38 @@ other_version_row = refl
 
 other_text_row : has_bad_spf_term (codes "v=DKIM1; p=") ≡ false
 other_text_row = refl
+
+-- ---- terms without an effect, and modifiers that are repeated (sections 5.1, 6 and 6.1)
+
+mechanism_after_all_row : has_unused_term 0 (codes "v=spf1 -all mx") ≡ true
+mechanism_after_all_row = refl
+
+second_all_row : has_unused_term 0 (codes "v=spf1 mx ~all -all") ≡ true
+second_all_row = refl
+
+modifier_after_all_row : has_unused_term 0 (codes "v=spf1 mx -all exp=e.example.com") ≡ false
+modifier_after_all_row = refl
+
+all_at_end_row : has_unused_term 0 (codes "v=spf1 mx -all ") ≡ false
+all_at_end_row = refl
+
+malformed_after_all_row : has_unused_term 0 (codes "v=spf1 -all mx includ:x") ≡ false
+malformed_after_all_row = refl
+
+redirect_beside_all_row : has_unused_term 1 (codes "v=spf1 redirect=a.example.com ?all") ≡ true
+redirect_beside_all_row = refl
+
+redirect_alone_row : has_unused_term 1 (codes "v=spf1 mx redirect=a.example.com") ≡ false
+redirect_alone_row = refl
+
+two_redirects_row : has_repeated_modifier (codes "v=spf1 redirect=a.example.com REDIRECT=b.example.com") ≡ true
+two_redirects_row = refl
+
+two_explanations_row : has_repeated_modifier (codes "v=spf1 exp=a.example.com -all exp=a.example.com") ≡ true
+two_explanations_row = refl
+
+one_of_each_row : has_repeated_modifier (codes "v=spf1 exp=a.example.com redirect=b.example.com") ≡ false
+one_of_each_row = refl
+
+two_unknown_row : has_repeated_modifier (codes "v=spf1 x=1 x=2 -all") ≡ false
+two_unknown_row = refl

@@ -1,10 +1,12 @@
 -- The terms of SPF records (RFC 7208 section 12).
-use Rattle.std.specs.Prelude.{ℕ, ◌+◌, ◌-◌, ◌*◌, ◌==◌, ◌&&◌, ◌||◌, not, nat_le, if◌then◌else◌, suc, Bool, true, false, Option, List, [], ◌∷◌, take, codes}
+use Rattle.std.specs.Prelude.{ℕ, ◌+◌, ◌-◌, ◌*◌, ◌==◌, ◌&&◌, ◌||◌, not, nat_le, if◌then◌else◌, suc, Bool, true, false, List, [], ◌∷◌, take, codes}
 use Rattle.std.specs.Char.{is_ascii_alphabetic, is_ascii_alphanumeric, is_ascii_digit, is_ascii_hexdigit}
 use Rattle.std.specs.List.{list_all, list_any}
 use Rattle.std.specs.Option.{option_map_or}
 use Rattle.dns_octets.specs.Lowered.{same_lowered}
 use Rattle.mail_texts.specs.Macros.{is_domain_spec, is_macro_string, has_no_octets}
+use Rattle.mail_texts.specs.declared.spf_use.TermTest.{TermTest}
+use Rattle.mail_texts.specs.declared.spf_use.TermTest.TheVariants.{All, Redirect, Explanation, Directive}
 use Rattle.mail_texts.specs.Parts.{is_pair, octets_after, octets_before, parts_between, passes_beyond}
 
 -- a decimal number without leading zeros, of at most three digits, and up to a maximum
@@ -132,3 +134,67 @@ are_bad_spf_terms octets = ends_version octets && not (are_spf_terms octets)
 -- the text is an SPF record, and what follows its version is not terms
 abbrev pub has_bad_spf_term : List ℕ → Bool
 has_bad_spf_term text = passes_beyond (codes "v=spf1") are_bad_spf_terms text
+
+-- the text is an SPF record
+abbrev pub is_spf_text : List ℕ → Bool
+is_spf_text text = passes_beyond (codes "v=spf1") ends_version text
+
+-- ---- records whose terms are right
+
+-- the mechanism all
+abbrev pub is_all_term : List ℕ → Bool
+is_all_term word = same_lowered (beyond_qualifier word) (codes "all")
+
+-- the modifier with a name
+abbrev pub is_value_of_any : List ℕ → Bool
+is_value_of_any value = true
+
+abbrev pub is_modifier_of : (name word : List ℕ) → Bool
+is_modifier_of name word = is_pair 61 (λ octets. same_lowered octets name) is_value_of_any word
+
+-- the test of a term by its name
+abbrev pub passes_term : TermTest → List ℕ → Bool
+passes_term All word = is_all_term word
+passes_term Redirect word = is_modifier_of (codes "redirect") word
+passes_term Explanation word = is_modifier_of (codes "exp") word
+passes_term Directive word = is_spf_directive word
+
+abbrev pub has_term : TermTest → List (List ℕ) → Bool
+has_term test words = list_any (passes_term test) words
+
+-- two words pass a test
+abbrev pub has_two_terms : TermTest → List (List ℕ) → Bool
+has_two_terms test [] = false
+has_two_terms test (word ∷ words) = (passes_term test word && has_term test words) || has_two_terms test words
+
+-- redirect and exp must not appear more than once each (section 6)
+abbrev pub has_modifier_twice : List (List ℕ) → Bool
+has_modifier_twice words = has_two_terms Redirect words || has_two_terms Explanation words
+
+-- mechanisms after all are never tested (section 5.1)
+abbrev pub has_mechanism_after_all : List (List ℕ) → Bool
+has_mechanism_after_all [] = false
+has_mechanism_after_all (word ∷ words) = if is_all_term word then has_term Directive words else has_mechanism_after_all words
+
+-- redirect is ignored if all is anywhere in the record (section 6.1)
+abbrev pub has_redirect_beside_all : List (List ℕ) → Bool
+has_redirect_beside_all words = has_term All words && has_term Redirect words
+
+-- terms that are right, and a test of them
+abbrev pub have_repeated_modifier : List ℕ → Bool
+have_repeated_modifier octets = ends_version octets && (are_spf_terms octets && has_modifier_twice (parts_between 32 octets))
+
+-- the text is an SPF record with right terms, two of which are the same modifier
+abbrev pub has_repeated_modifier : List ℕ → Bool
+has_repeated_modifier text = passes_beyond (codes "v=spf1") have_repeated_modifier text
+
+-- a mechanism after all, the first way, or redirect beside it
+abbrev pub are_unused : (way : ℕ) → List (List ℕ) → Bool
+are_unused way words = if way == 0 then has_mechanism_after_all words else has_redirect_beside_all words
+
+abbrev pub have_unused_term : (way : ℕ) → List ℕ → Bool
+have_unused_term way octets = ends_version octets && (are_spf_terms octets && are_unused way (parts_between 32 octets))
+
+-- the text is an SPF record with right terms, one of which no receiver reaches
+abbrev pub has_unused_term : (way : ℕ) → List ℕ → Bool
+has_unused_term way text = passes_beyond (codes "v=spf1") (have_unused_term way) text

@@ -3,7 +3,7 @@ ghost use Rattle.std.specs.Prelude.{◌≡◌, ◌≤◌, ◌==◌, codes, lengt
 ghost use Rattle.std.specs.List.{list_all, list_any};
 ghost use Rattle.mail_texts.specs.Macros.{is_domain_spec};
 ghost use Rattle.mail_texts.specs.Parts.{is_pair, passes_beyond};
-ghost use Rattle.mail_texts.specs.SpfTerms.{are_bad_spf_terms, are_spf_terms, ends_version, beyond_qualifier, has_bad_spf_term, has_host_arguments, has_ip4_arguments, has_ip6_arguments, is_cidr, is_spf_directive, is_dual_cidr, is_host_mechanism, is_ip4_network, is_ip6_cidr, is_ip6_network, is_ip6_octet, is_known_modifier, is_mechanism_name, is_spf_modifier, is_modifier_name, is_name_octet, is_number_up_to, is_other_mechanism, is_spf_term, is_spf_word, is_target, is_value_of, suffix_place};
+ghost use Rattle.mail_texts.specs.SpfTerms.{are_bad_spf_terms, are_spf_terms, ends_version, beyond_qualifier, has_bad_spf_term, is_spf_text, has_host_arguments, has_ip4_arguments, has_ip6_arguments, is_cidr, is_spf_directive, is_dual_cidr, is_host_mechanism, is_ip4_network, is_ip6_cidr, is_ip6_network, is_ip6_octet, is_known_modifier, is_mechanism_name, is_spf_modifier, is_modifier_name, is_name_octet, is_number_up_to, is_other_mechanism, is_spf_term, is_spf_word, is_target, is_value_of, suffix_place};
 
 use crate::macros::{has_no_octets, is_domain_spec, is_macro_string};
 use crate::parts::{after_count, after_prefix, first_octets, split_octet};
@@ -275,7 +275,7 @@ fn is_other_mechanism(octets: &[u8]) -> bool
 }
 
 /// Returns the octets after a qualifier, or all if they don't begin with one.
-fn after_qualifier(octets: &[u8]) -> &[u8]
+pub(crate) fn after_qualifier(octets: &[u8]) -> &[u8]
     ensures { result.now ≡ beyond_qualifier octets.now }
 {
     match octets {
@@ -285,7 +285,7 @@ fn after_qualifier(octets: &[u8]) -> &[u8]
 }
 
 /// Returns whether octets are a directive: a mechanism, maybe after a qualifier.
-fn is_spf_directive(octets: &[u8]) -> bool
+pub(crate) fn is_spf_directive(octets: &[u8]) -> bool
     ensures { result ≡ is_spf_directive octets.now }
 {
     let mechanism = after_qualifier(octets);
@@ -293,7 +293,7 @@ fn is_spf_directive(octets: &[u8]) -> bool
 }
 
 /// Returns whether octets are the name of a mechanism.
-fn is_mechanism_name(name: &[u8]) -> bool
+pub(crate) fn is_mechanism_name(name: &[u8]) -> bool
     ensures { result ≡ is_mechanism_name name.now }
 {
     same_octets(name, b"all")
@@ -392,7 +392,7 @@ pub fn are_spf_terms(octets: &[u8]) -> bool
 }
 
 /// Returns whether octets are nothing, or begin with a space.
-fn ends_version(octets: &[u8]) -> bool
+pub(crate) fn ends_version(octets: &[u8]) -> bool
     ensures { result ≡ ends_version octets.now }
 {
     match octets {
@@ -414,6 +414,16 @@ pub fn has_bad_spf_term(text: &[u8]) -> bool
 {
     match after_prefix(b"v=spf1", text) {
         Some(terms) => are_bad_spf_terms(terms),
+        None => false,
+    }
+}
+
+/// Returns whether a text is an SPF record: `v=spf1`, alone or before a space.
+pub fn is_spf_text(text: &[u8]) -> bool
+    ensures { result ≡ is_spf_text text.now }
+{
+    match after_prefix(b"v=spf1", text) {
+        Some(terms) => ends_version(terms),
         None => false,
     }
 }

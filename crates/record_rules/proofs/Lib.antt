@@ -3,4 +3,6 @@ mod CaaParts
 mod Found
 mod LabelEnds
 mod LabelSteps
+mod MailNames
+mod TextLists
 mod Words

@@ -1,11 +1,12 @@
 -- Character strings and names at the beginning of octets, and tests of labels.
-use Rattle.std.specs.Prelude.{◌≡◌, ◌<◌, ℕ, zero, suc, ◌+◌, ◌-◌, ◌*◌, ◌==◌, ◌&&◌, ◌||◌, not, nat_le, nat_eq, if◌then◌else◌, Bool, false, Option, Some, None, List, [], ◌∷◌, length, take, drop}
+use Rattle.std.specs.Prelude.{◌≡◌, ◌<◌, ℕ, zero, suc, ◌+◌, ◌-◌, ◌*◌, ◌==◌, ◌&&◌, ◌||◌, not, nat_le, nat_eq, if◌then◌else◌, Bool, false, Option, Some, None, List, [], ◌∷◌, length, take, drop, codes}
 use Rattle.std.specs.Char.{is_ascii_digit, is_ascii_hexdigit}
 use Rattle.std.specs.Cmp.Lexicographic.{pointwise}
 use Rattle.std.specs.List.{list_any}
+use Rattle.dns_octets.specs.Lowered.{same_lowered}
 use Rattle.dns_wire.specs.Order.{same_name}
 use Rattle.record_rules.specs.declared.labels.LabelTest.{LabelTest}
-use Rattle.record_rules.specs.declared.labels.LabelTest.TheVariants.{Asterisk, AtSign, Underscore, Number, HexDigit}
+use Rattle.record_rules.specs.declared.labels.LabelTest.TheVariants.{Asterisk, AtSign, Underscore, Number, HexDigit, KeyZone}
 
 -- ---- octets
 
@@ -84,12 +85,17 @@ begins_underscore (octet ∷ octets) = octet == 95
 abbrev pub has_slash_or_hyphen : List ℕ → Bool
 has_slash_or_hyphen label = list_any (λ o. o == 47 || o == 45) label
 
+-- the label below which keys of DKIM are (RFC 6376 section 3.6.2.1)
+abbrev pub is_key_zone : List ℕ → Bool
+is_key_zone label = same_lowered label (codes "_domainkey")
+
 abbrev pub passes_test : LabelTest → List ℕ → Bool
 passes_test Asterisk label = is_asterisk label
 passes_test AtSign label = has_at_sign label
 passes_test Underscore label = begins_underscore label
 passes_test Number label = is_octet_label label
 passes_test HexDigit label = is_nibble_label label
+passes_test KeyZone label = is_key_zone label
 
 -- ---- names, by their labels without the root
 

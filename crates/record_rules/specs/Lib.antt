@@ -3,5 +3,7 @@ pub mod Comments
 pub mod FoundAlone
 pub mod Labels
 pub mod LoneRules
+pub mod MailRows
+pub mod MailTexts
 pub mod Rows
 pub mod Substitutions

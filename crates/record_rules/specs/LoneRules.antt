@@ -7,15 +7,17 @@ use Rattle.std.specs.Option.{option_map_or}
 use Rattle.dns_octets.specs.Lowered.{same_lowered}
 use Rattle.dns_wire.specs.Order.{same_name}
 use Rattle.finding_codes.specs.declared.code.Code.{Code}
-use Rattle.finding_codes.specs.declared.code.Code.TheVariants.{SpfType, NaptrRegexp, NaptrBoth, CaaTag, SoaMail, SoaTimers, ReverseName, WildcardInside, TargetAddress, TxtWords, CommentInData, PtrDot, TlsaField, CaaValue, Spf}
+use Rattle.finding_codes.specs.declared.code.Code.TheVariants.{SpfType, NaptrRegexp, NaptrBoth, CaaTag, SoaMail, SoaTimers, ReverseName, WildcardInside, TargetAddress, TxtWords, CommentInData, PtrDot, TlsaField, CaaValue, Spf, SpfUnused, Dmarc, Dkim}
 use Rattle.finding_codes.specs.declared.rule.Rule.{Rule}
 use Rattle.rdata_values.specs.Rtype as Rtype
 use Rattle.rdata_values.specs.declared.types.RecordType.{RecordType}
 use Rattle.rdata_fields.specs.declared.record_ref.RecordRef.{RecordRef}
-use Rattle.mail_texts.specs.SpfTerms.{has_bad_spf_term}
+use Rattle.mail_texts.specs.Joined.{text_of_strings, joint_index}
+use Rattle.mail_texts.specs.SpfTerms.{has_bad_spf_term, has_repeated_modifier, has_unused_term, is_spf_text}
 use Rattle.record_rules.specs.CaaValues.{is_issue_value, is_report_url}
 use Rattle.record_rules.specs.Comments.{has_word_at_comment}
 use Rattle.record_rules.specs.Labels.{begins_underscore, beyond_name, beyond_string, ends_in_name, has_at_sign, is_asterisk, is_divided_below, is_nibble_label, is_octet_label, beyond_passing, name_labels, leading_string}
+use Rattle.record_rules.specs.MailTexts.{has_bad_key, has_bad_policy, is_key_owner, is_policy_owner, is_short_text}
 use Rattle.record_rules.specs.Substitutions.{is_substitution}
 use Rattle.record_rules.specs.declared.written.Written.{Written}
 
@@ -235,9 +237,26 @@ abbrev pub begins_spf : List ℕ → Bool
 begins_spf (count ∷ v ∷ equals ∷ s ∷ octets) = (v == 118 || v == 86) && (equals == 61 && (s == 115 || s == 83))
 begins_spf octets = false
 
--- one string, which is an SPF record with a malformed term
-abbrev pub has_bad_spf : List ℕ → Bool
-has_bad_spf octets = is_nil_list (beyond_string octets) && has_bad_spf_term (leading_string octets)
+-- strings are joined between terms without a blank
+abbrev pub has_joint : List ℕ → Bool
+has_joint octets = option_map_or (λ index. true) (joint_index octets) false
+
+-- an SPF record with a malformed term, with a modifier that is repeated, or of strings that are joined without a blank
+abbrev pub is_bad_spf_text : (way : ℕ) → List ℕ → Bool
+is_bad_spf_text way text = if way == 0 then has_bad_spf_term text else has_repeated_modifier text
+
+abbrev pub has_bad_spf : (way : ℕ) → List ℕ → Bool
+has_bad_spf way octets =
+    is_short_text octets
+    && (if way == 2 then (has_joint octets && is_spf_text (text_of_strings octets)) else (not (has_joint octets) && is_bad_spf_text way (text_of_strings octets)))
+
+-- an SPF record with a term that no receiver reaches
+abbrev pub has_unused_spf : (way : ℕ) → List ℕ → Bool
+has_unused_spf way octets = is_short_text octets && (not (has_joint octets) && has_unused_term way (text_of_strings octets))
+
+-- a comment begins in the text, or its words are joined without blanks, so it is not the text that was meant
+abbrev pub is_cut_text : List ℕ → Option Written → Bool
+is_cut_text octets text = option_map_or (λ w. has_word_at_comment w.last.now) text false || (option_map_or (λ w. not w.has_quotes) text false && has_version_words octets)
 
 -- TXT, SPF and CAA, whose strings often have semicolons
 abbrev pub is_text_type : RecordType → Bool
@@ -271,7 +290,10 @@ breaks_alone CommentInData way owner rtype octets text = is_text_type rtype && o
 breaks_alone PtrDot way owner rtype octets text = rtype == Rtype.ptr && lacks_final_dot (name_labels owner) (name_labels octets)
 breaks_alone TlsaField way owner rtype octets text = is_association_type rtype && has_bad_association way octets
 breaks_alone CaaValue way owner rtype octets text = rtype == Rtype.caa && (has_bad_value way octets && not (option_map_or (λ w. has_word_at_comment w.last.now) text false))
-breaks_alone Spf way owner rtype octets text = rtype == Rtype.txt && (begins_spf octets && has_bad_spf octets)
+breaks_alone Spf way owner rtype octets text = rtype == Rtype.txt && (begins_spf octets && (not (is_cut_text octets text) && has_bad_spf way octets))
+breaks_alone SpfUnused way owner rtype octets text = rtype == Rtype.txt && (begins_spf octets && (not (is_cut_text octets text) && has_unused_spf way octets))
+breaks_alone Dmarc way owner rtype octets text = rtype == Rtype.txt && (is_policy_owner (name_labels owner) && (not (is_cut_text octets text) && has_bad_policy way octets))
+breaks_alone Dkim way owner rtype octets text = rtype == Rtype.txt && (is_key_owner (name_labels owner) && (not (is_cut_text octets text) && has_bad_key way octets))
 breaks_alone _ way owner rtype octets text = false
 
 -- the same, of a record whose octets are borrowed

@@ -13,7 +13,7 @@ use Rattle.record_rules.specs.Substitutions.{group_count, is_substitution}
 use Rattle.record_rules.specs.declared.regexp.Spot.TheVariants.{Plain}
 use Rattle.finding_codes.specs.Rule.{coded_rule}
 use Rattle.finding_codes.specs.declared.code.Code.{Code}
-use Rattle.finding_codes.specs.declared.code.Code.TheVariants.{SpfType, NaptrRegexp, NaptrBoth, CaaTag, SoaMail, SoaTimers, ReverseName, WildcardInside, TargetAddress, TxtWords, CommentInData, PtrDot, TlsaField, CaaValue, Spf}
+use Rattle.finding_codes.specs.declared.code.Code.TheVariants.{SpfType, NaptrRegexp, NaptrBoth, CaaTag, SoaMail, SoaTimers, ReverseName, WildcardInside, TargetAddress, TxtWords, CommentInData, PtrDot, TlsaField, CaaValue, Spf, SpfUnused}
 use Rattle.finding_codes.specs.declared.rule.Rule.{Rule}
 use Rattle.record_rules.specs.declared.written.Written.{Written}
 
@@ -767,3 +767,24 @@ spf_right_row = refl
 
 spf_two_strings_row : broken (coded_rule Spf 0) Rtype.txt (text (codes "v=spf1 ip4:192.0.2.1 inclu") ++ text (codes "de:b.net -all")) ≡ false
 spf_two_strings_row = refl
+
+spf_joined_row : broken (coded_rule Spf 0) Rtype.txt (text (codes "v=spf1 ip4:192.0.2.1 inclu") ++ text (codes "d:b.net -all")) ≡ true
+spf_joined_row = refl
+
+spf_cut_row : breaks_alone Spf 0 (wire apex) Rtype.txt (text (codes "v=spf1") ++ text (codes "-all")) (Some (from_text false (codes "-all\n"))) ≡ false
+spf_cut_row = refl
+
+spf_repeated_row : broken (coded_rule Spf 1) Rtype.txt (text (codes "v=spf1 redirect=a.b ") ++ text (codes "redirect=c.d")) ≡ true
+spf_repeated_row = refl
+
+spf_joint_row : broken (coded_rule Spf 2) Rtype.txt (text (codes "v=spf1 include:a.net") ++ text (codes "include:b.net -all")) ≡ true
+spf_joint_row = refl
+
+spf_joint_term_row : broken (coded_rule Spf 0) Rtype.txt (text (codes "v=spf1 include:a.net") ++ text (codes "include:b.net -all")) ≡ false
+spf_joint_term_row = refl
+
+spf_unused_row : broken (coded_rule SpfUnused 0) Rtype.txt (text (codes "v=spf1 -all mx")) ≡ true
+spf_unused_row = refl
+
+spf_used_row : broken (coded_rule SpfUnused 0) Rtype.txt (text (codes "v=spf1 mx -all")) ≡ false
+spf_used_row = refl

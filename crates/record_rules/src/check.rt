@@ -3,12 +3,16 @@ ghost use Rattle.std.specs.Prelude.{◌≡◌, ◌<◌, ◌≤◌, ◌+◌, ◌+
 ghost use Rattle.arrayvec.specs.ArrayVec.{array_vec_len};
 ghost use Rattle.std.specs.Option.{option_map_or};
 ghost use Rattle.record_rules.specs.Comments.{has_word_at_comment};
-ghost use Rattle.record_rules.specs.FoundAlone.{found_alone, ListsRulesOf};
-ghost use Rattle.record_rules.specs.LoneRules.{begins_spf, begins_version, breaks_record_rule, has_bad_mail, has_bad_spf, has_bad_tag, has_bad_timer, has_version_words, is_association_type, is_text_type};
+ghost use Rattle.record_rules.specs.FoundAlone.{found_alone, rules_of_text, ListsRulesOf};
+ghost use Rattle.record_rules.specs.LoneRules.{begins_spf, begins_version, breaks_record_rule, has_bad_mail, has_bad_tag, has_bad_timer, has_version_words, is_association_type, is_cut_text, is_text_type};
 
 use crate::caa::{has_bad_value, has_capital_tag, has_critical_tag, has_unknown_tag};
 use crate::comments::has_word_at_comment;
 use crate::labels::{after_string, first_string};
+use crate::mail::{
+    has_any_bad_key, has_bad_key, has_bad_policy, has_bad_spf, has_unused_spf, is_key_owner,
+    is_policy_owner,
+};
 use crate::names::{has_address_target, has_inner_asterisk, is_bad_reverse, lacks_final_dot};
 use crate::naptr::{has_bad_expression, has_two_results};
 use crate::soa::{
@@ -20,12 +24,11 @@ use arrayvec::ArrayVec;
 use finding_codes::code::Code;
 use finding_codes::rule;
 use finding_codes::rule::Rule;
-use mail_texts::has_bad_spf_term;
 use rdata_fields::RecordRef;
 use rdata_values::RecordType;
 
 /// All rules, in the order in which they are checked.
-pub static LONE_RULES: [Rule; 24] = [
+pub static LONE_RULES: [Rule; 40] = [
     rule!(SpfType, 0),
     rule!(NaptrRegexp, 0),
     rule!(NaptrBoth, 0),
@@ -50,6 +53,22 @@ pub static LONE_RULES: [Rule; 24] = [
     rule!(CaaValue, 1),
     rule!(CaaValue, 2),
     rule!(Spf, 0),
+    rule!(Spf, 1),
+    rule!(Spf, 2),
+    rule!(SpfUnused, 0),
+    rule!(SpfUnused, 1),
+    rule!(Dmarc, 0),
+    rule!(Dmarc, 1),
+    rule!(Dmarc, 2),
+    rule!(Dmarc, 3),
+    rule!(Dmarc, 4),
+    rule!(Dmarc, 5),
+    rule!(Dkim, 0),
+    rule!(Dkim, 1),
+    rule!(Dkim, 2),
+    rule!(Dkim, 3),
+    rule!(Dkim, 4),
+    rule!(Dkim, 5),
 ];
 
 /// Those for a record of any type.
@@ -64,11 +83,58 @@ static RULES_OF_PTR: [Rule; 4] = [
 ];
 
 /// Those for a TXT.
-static RULES_OF_TXT: [Rule; 4] = [
+static RULES_OF_TXT: [Rule; 3] = [
+    rule!(WildcardInside, 0),
+    rule!(TxtWords, 0),
+    rule!(CommentInData, 0),
+];
+
+/// Those for a TXT that may be an SPF record.
+static RULES_OF_SENDERS: [Rule; 8] = [
     rule!(WildcardInside, 0),
     rule!(TxtWords, 0),
     rule!(CommentInData, 0),
     rule!(Spf, 0),
+    rule!(Spf, 1),
+    rule!(Spf, 2),
+    rule!(SpfUnused, 0),
+    rule!(SpfUnused, 1),
+];
+
+/// Those for a TXT at an owner of a DMARC record.
+static RULES_OF_POLICY: [Rule; 14] = [
+    rule!(WildcardInside, 0),
+    rule!(TxtWords, 0),
+    rule!(CommentInData, 0),
+    rule!(Spf, 0),
+    rule!(Spf, 1),
+    rule!(Spf, 2),
+    rule!(SpfUnused, 0),
+    rule!(SpfUnused, 1),
+    rule!(Dmarc, 0),
+    rule!(Dmarc, 1),
+    rule!(Dmarc, 2),
+    rule!(Dmarc, 3),
+    rule!(Dmarc, 4),
+    rule!(Dmarc, 5),
+];
+
+/// Those for a TXT at an owner of a key of DKIM.
+static RULES_OF_KEY: [Rule; 14] = [
+    rule!(WildcardInside, 0),
+    rule!(TxtWords, 0),
+    rule!(CommentInData, 0),
+    rule!(Spf, 0),
+    rule!(Spf, 1),
+    rule!(Spf, 2),
+    rule!(SpfUnused, 0),
+    rule!(SpfUnused, 1),
+    rule!(Dkim, 0),
+    rule!(Dkim, 1),
+    rule!(Dkim, 2),
+    rule!(Dkim, 3),
+    rule!(Dkim, 4),
+    rule!(Dkim, 5),
 ];
 
 /// Those for an SPF.
@@ -115,14 +181,32 @@ static RULES_OF_TLSA: [Rule; 4] = [
     rule!(TlsaField, 2),
 ];
 
-/// Returns the rules that a record of a type may break, in the order of [`LONE_RULES`].
-fn rules_of(rtype: RecordType) -> &'static [Rule]
-    ensures found { ListsRulesOf rtype result.now }
+/// Returns the rules that a TXT with an owner and RDATA may break, in the order of [`LONE_RULES`].
+fn rules_of_text(owner: &[u8], data: &[u8]) -> &'static [Rule]
+    ensures found { result.now ≡ rules_of_text owner.now «data».now }
     ensures few { length result.now ≤ 16 }
 {
-    match rtype {
+    if is_policy_owner(owner) {
+        return &RULES_OF_POLICY;
+    }
+    if is_key_owner(owner) && has_any_bad_key(data) {
+        return &RULES_OF_KEY;
+    }
+    if begins_spf(data) {
+        return &RULES_OF_SENDERS;
+    }
+    &RULES_OF_TXT
+}
+
+/// Returns the rules that a record may break, in the order of [`LONE_RULES`].
+#[tactic(auto, using(crate::proofs::TextLists::text_lists))]
+fn rules_of(record: &RecordRef<'_>) -> &'static [Rule]
+    ensures found { ListsRulesOf «record».now result.now }
+    ensures few { length result.now ≤ 16 }
+{
+    match record.rtype {
         RecordType::PTR => &RULES_OF_PTR,
-        RecordType::TXT => &RULES_OF_TXT,
+        RecordType::TXT => rules_of_text(record.owner, record.data),
         RecordType::SPF => &RULES_OF_SPF,
         RecordType::NAPTR => &RULES_OF_NAPTR,
         RecordType::CAA => &RULES_OF_CAA,
@@ -161,14 +245,6 @@ fn begins_spf(data: &[u8]) -> bool
     }
 }
 
-/// Returns whether a TXT has one string, which is an SPF record with a malformed term.
-#[inline(never)]
-fn has_bad_spf(data: &[u8]) -> bool
-    ensures { result ≡ has_bad_spf «data».now }
-{
-    after_string(data).is_empty() && has_bad_spf_term(first_string(data))
-}
-
 /// Returns whether RDATA is known to be written without quotes.
 fn is_unquoted(written: Option<Written<'_>>) -> bool
     ensures { result ≡ option_map_or (λ w. not w.has_quotes) written.entry false }
@@ -187,6 +263,13 @@ fn ends_at_comment(written: Option<Written<'_>>) -> bool
         Some(text) => has_word_at_comment(text.last),
         None => false,
     }
+}
+
+/// Returns whether a comment begins in a text, or its words are joined without blanks.
+fn is_cut_text(data: &[u8], written: Option<Written<'_>>) -> bool
+    ensures { result ≡ is_cut_text «data».now written.entry }
+{
+    ends_at_comment(written) || (is_unquoted(written) && has_version_words(data))
 }
 
 /// Returns whether strings of RDATA of a type often have semicolons.
@@ -268,7 +351,28 @@ pub fn breaks_rule(rule: Rule, record: &RecordRef<'_>, written: Option<Written<'
                 && !ends_at_comment(written)
         }
         Code::Spf => {
-            rtype == RecordType::TXT && begins_spf(record.data) && has_bad_spf(record.data)
+            rtype == RecordType::TXT
+                && begins_spf(record.data)
+                && !is_cut_text(record.data, written)
+                && has_bad_spf(rule.way, record.data)
+        }
+        Code::SpfUnused => {
+            rtype == RecordType::TXT
+                && begins_spf(record.data)
+                && !is_cut_text(record.data, written)
+                && has_unused_spf(rule.way, record.data)
+        }
+        Code::Dmarc => {
+            rtype == RecordType::TXT
+                && is_policy_owner(record.owner)
+                && !is_cut_text(record.data, written)
+                && has_bad_policy(rule.way, record.data)
+        }
+        Code::Dkim => {
+            rtype == RecordType::TXT
+                && is_key_owner(record.owner)
+                && !is_cut_text(record.data, written)
+                && has_bad_key(rule.way, record.data)
         }
         _ => false,
     }
@@ -290,7 +394,7 @@ pub fn broken_rules(record: &RecordRef<'_>, written: Option<Written<'_>>) -> Arr
     ensures { result.items ≡ found_alone «record».now written.entry }
 {
     let mut found = ArrayVec::new();
-    let rules = rules_of(record.rtype);
+    let rules = rules_of(record);
     for rule in rules {
         add_if(breaks_rule(*rule, record, written), *rule, &mut found);
     }

@@ -4,7 +4,7 @@ ghost use Rattle.std.specs.List.{list_any};
 ghost use Rattle.std.specs.Option.{option_copied, option_map};
 ghost use Rattle.dns_wire.specs.Order.{same_name};
 ghost use Rattle.record_rules.specs.LoneRules.{is_nil_list};
-ghost use Rattle.record_rules.specs.Labels.{begins_underscore, beyond_name, beyond_passing, beyond_string, ends_in_name, has_at_sign, has_slash_or_hyphen, is_asterisk, is_divided_below, is_nibble_label, is_octet_label, last_two, leading_string, name_labels, passes_test, HasFirstLabel, IsRootBefore};
+ghost use Rattle.record_rules.specs.Labels.{begins_underscore, beyond_name, beyond_passing, beyond_string, ends_in_name, has_at_sign, has_slash_or_hyphen, is_asterisk, is_key_zone, is_divided_below, is_nibble_label, is_octet_label, last_two, leading_string, name_labels, passes_test, HasFirstLabel, IsRootBefore};
 
 use dns_octets::lowered::same_octets;
 use mail_texts::parts::after_count;
@@ -108,6 +108,8 @@ pub(crate) enum LabelTest {
     Number,
     /// The label is a hexadecimal digit.
     HexDigit,
+    /// The label is `_domainkey`.
+    KeyZone,
 }
 
 /// Returns whether a label is a decimal number from 0 to 255 without leading zeros.
@@ -179,6 +181,13 @@ fn has_slash_or_hyphen(label: &[u8]) -> bool
     label.iter().any(|octet| *octet == b'/' || *octet == b'-')
 }
 
+/// Returns whether a label is `_domainkey`.
+pub(crate) fn is_key_zone(label: &[u8]) -> bool
+    ensures { result ≡ is_key_zone label.now }
+{
+    same_octets(label, b"_domainkey")
+}
+
 /// Returns whether a label passes a test.
 fn passes_test(test: LabelTest, label: &[u8]) -> bool
     ensures { result ≡ passes_test test label.now }
@@ -189,6 +198,7 @@ fn passes_test(test: LabelTest, label: &[u8]) -> bool
         LabelTest::Underscore => begins_underscore(label),
         LabelTest::Number => is_octet_label(label),
         LabelTest::HexDigit => is_nibble_label(label),
+        LabelTest::KeyZone => is_key_zone(label),
     }
 }
 

@@ -7,6 +7,7 @@ mod check;
 mod comments;
 mod labels;
 mod laws;
+mod mail;
 mod names;
 mod naptr;
 mod regexp;

@@ -1,4 +1,4 @@
-use Rattle.std.proofs.Common.{◌+◌, take, drop, sym, subst, ◌∙◌}
+use Rattle.std.proofs.Common.{take, sym, subst, ◌∙◌}
 use Rattle.mail_texts.specs.Parts.{IsSplitAt}
 use Rattle.mail_texts.proofs.Splits.{split_is, unsplit_is}
 use Rattle.mail_texts.proofs.parts.split_octet.Goals as goal

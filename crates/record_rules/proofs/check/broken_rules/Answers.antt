@@ -17,4 +17,4 @@ returns c =
     let all : length rules ≤ c.loop-rule.rule-index = omega arith in
     c.loop-rule.invariant.0
     ∙ ap (filter (breaks_record_rule c.args.record.now c.args.written)) (take_all c.loop-rule.rule-index rules all)
-    ∙ c.rules_of-rules.ensures.found c.args.record.now c.args.written refl
+    ∙ c.rules_of-rules.ensures.found c.args.written

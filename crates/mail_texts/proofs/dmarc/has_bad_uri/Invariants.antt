@@ -1,0 +1,12 @@
+use Rattle.std.proofs.Common.{◌≡◌, length}
+use Rattle.std.specs.List.{list_any}
+use Rattle.mail_texts.specs.Parts.{parts_between}
+use Rattle.mail_texts.specs.Dmarc.{has_right_uris}
+use Rattle.mail_texts.specs.Tags.{is_failing_tag}
+use Rattle.mail_texts.proofs.dmarc.has_bad_uri.Given as goal
+
+abbrev pub invariant-loop-part : goal.invariant-loop-part
+invariant-loop-part l = list_any (is_failing_tag has_right_uris) (parts_between 59 l.rest) ≡ list_any (is_failing_tag has_right_uris) (parts_between 59 l.fn.text)
+
+abbrev pub decreases-loop-part : goal.decreases-loop-part
+decreases-loop-part l = length l.rest
