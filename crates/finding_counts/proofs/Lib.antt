@@ -1,1 +1,3 @@
 mod CountOrders
+mod KeyMaps
+mod Ranks

@@ -1,2 +1,4 @@
 pub mod Baselines
 pub mod CodeCounts
+pub mod KeyNumbers
+pub mod WordRanks

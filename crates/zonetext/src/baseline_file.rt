@@ -2,6 +2,7 @@
 use clap::ArgMatches;
 use finding_codes::code::Code;
 use finding_counts::baseline::{BaselineLine, baseline_line, code_word};
+use finding_counts::key_counts::{Baseline, KeyCounts};
 use server_config::TextSpan;
 use std::alloc::{AllocError, Global};
 use std::fs::Files;
@@ -11,7 +12,7 @@ use zonetext_edit::format::leave;
 use zonetext_files::part_files::write_new;
 use zonetext_files::shown::Shown;
 use zonetext_files::stop::EXIT_IO;
-use zonetext_findings::ledger::{Baseline, KeyCounts, Ledger};
+use zonetext_findings::ledger::Ledger;
 use zonetext_findings::machine::Format;
 use zonetext_findings::reporter::Form;
 use zonetext_findings::summary::Summary;

@@ -18,4 +18,3 @@ pub mod reporter;
 pub mod subjects;
 pub mod summary;
 pub mod totals;
-mod word_ranks;

@@ -4,6 +4,10 @@ use finding_codes::code::Code;
 use std::alloc::{AllocError, Global};
 use std::collections::BTreeMap;
 
+/// Greatest number of findings that are kept, in a few MB. One that is found again after others were not
+/// kept is reported again.
+const MOST_FOUND: usize = 65_536;
+
 /// The number of the file and the code of a finding, and its line and column.
 type FindingKey = ((usize, &'static str), (usize, usize));
 
@@ -15,7 +19,7 @@ pub struct RepeatedFiles {
     paths: BTreeMap<String, usize>,
     /// For each file that is not the first with its path, the number of that.
     first: BTreeMap<usize, usize>,
-    /// For each finding the number of the file in which it was found first.
+    /// For each finding the number of the file in which it was found first, up to a number of findings.
     found: BTreeMap<FindingKey, usize>,
 }
 
@@ -45,8 +49,9 @@ impl RepeatedFiles {
         Ok(())
     }
 
-    /// Returns whether a finding was found before, in another file with the same path. Adds it if not. The
-    /// file that was opened first can't be included, and its findings are not kept.
+    /// Returns whether a finding was found before, in another file with the same path. Adds it if not, and
+    /// if fewer than [`MOST_FOUND`] are kept. The file that was opened first can't be included, and its
+    /// findings are not kept.
     pub fn repeats(
         &mut self,
         file: usize,
@@ -61,7 +66,9 @@ impl RepeatedFiles {
         match self.found.get(&key) {
             Some(other) => Ok(*other != file),
             None => {
-                self.found.insert(key, file)?;
+                if self.found.len() < MOST_FOUND {
+                    self.found.insert(key, file)?;
+                }
                 Ok(false)
             }
         }

@@ -4,11 +4,11 @@ use crate::finding_copy::{FindingCopy, copied};
 use crate::ledger::Ledger;
 use crate::machine::{Before, Format};
 use crate::repeated_files::RepeatedFiles;
-use crate::word_ranks::{WordRanks, may_be_beaten};
 use dns_lexer::position::Position;
 use finding_codes::code::{Code, Severity};
 use finding_codes::policy::Policy;
 use finding_codes::tally::Tally;
+use finding_counts::word_ranks::{CodeAtWord, WordRanks, may_be_beaten};
 use finding_formats::Finding;
 use finding_formats::excerpt::{LinePart, push_excerpt};
 use finding_formats::lines::push_lines;
@@ -173,6 +173,15 @@ struct HeldFinding {
     copy: FindingCopy,
 }
 
+/// Returns the code of a finding at the word that it is about.
+fn at_word(found: FoundFinding, position: Position) -> CodeAtWord {
+    CodeAtWord {
+        code: found.code,
+        file: found.file,
+        position,
+    }
+}
+
 /// Compares two findings by file as read, line and column.
 fn compare_held(left: &HeldFinding, right: &HeldFinding) -> Ordering {
     let (first, second) = (left.found.position, right.found.position);
@@ -310,7 +319,7 @@ impl<'a> Reporter<'a> {
                 self.ledger.count(self.rt.alloc(), key)?;
             }
             let is_known = match (&mut self.ledger.baseline, &key) {
-                (Some(baseline), Some(key)) => baseline.leave_out(key),
+                (Some(baseline), Some(key)) => baseline.leave_out(key.as_slice()),
                 _ => false,
             };
             if !is_known {
@@ -483,9 +492,7 @@ impl<'a> Reporter<'a> {
     /// Returns whether a finding with a lesser rank was counted at the word of one.
     fn is_beaten(&self, counted: WordFinding) -> bool {
         match counted.word {
-            Some(word) => self
-                .words
-                .is_beaten(counted.found.code, counted.found.file, word),
+            Some(word) => self.words.is_beaten(at_word(counted.found, word)),
             None => false,
         }
     }
@@ -502,8 +509,7 @@ impl<'a> Reporter<'a> {
         if self.is_beaten(counted) {
             return false;
         }
-        let (code, file) = (counted.found.code, counted.found.file);
-        if self.words.add(code, file, word).is_err() {
+        if self.words.add(at_word(counted.found, word)).is_err() {
             self.is_short = true;
         }
         true
@@ -556,10 +562,12 @@ impl<'a> Reporter<'a> {
         if !help.is_empty() || !self.holds {
             return Ok(None);
         }
-        let found = self
-            .words
-            .held_at(counted.code, counted.file, counted.position);
-        let Some(place) = found else {
+        let word = CodeAtWord {
+            code: counted.code,
+            file: counted.file,
+            position: counted.position,
+        };
+        let Some(place) = self.words.held_at(word) else {
             return Ok(None);
         };
         match self.held.get(place) {
@@ -596,7 +604,7 @@ impl<'a> Reporter<'a> {
         if may_be_known || self.waits(counted, finding_text.rtype) {
             if let Some(word) = word {
                 let place = self.held.len();
-                self.words.hold(found.code, found.file, word, place)?;
+                self.words.hold(at_word(found, word), place)?;
             }
             self.held.push(HeldFinding {
                 found,
