@@ -19,7 +19,7 @@ base64_unsplit octets h = (λ i. list_all is_digit64 (h.is_before i) && option_m
 pub sequence_long : (a b c d e f : ℕ) (digits : List ℕ) →
     is_whole_sequence (octets_of64 (a ∷ b ∷ c ∷ d ∷ e ∷ f ∷ digits))
     ≡ ((value64 a * 4 + value64 b / 16 == 48)
-      && is_der_length ((value64 b % 16) * 16 + value64 c / 4) ((value64 c % 4) * 64 + value64 d) (value64 e * 4 + value64 f / 16) (length (octets_of64 (a ∷ b ∷ c ∷ d ∷ e ∷ f ∷ digits))))
+    && is_der_length ((value64 b % 16) * 16 + value64 c / 4) ((value64 c % 4) * 64 + value64 d) (value64 e * 4 + value64 f / 16) (length (octets_of64 (a ∷ b ∷ c ∷ d ∷ e ∷ f ∷ digits))))
 sequence_long a b c d e f [] = refl
 sequence_long a b c d e f (g ∷ []) = refl
 sequence_long a b c d e f (g ∷ h ∷ digits) = refl

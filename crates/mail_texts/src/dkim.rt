@@ -220,7 +220,11 @@ fn key_fault(text: &[u8]) -> u8
         return 1;
     };
     match first_value(b"k", text) {
-        Some(kind) => fault_without_fws(is_key_kind(b"rsa", kind), is_key_kind(b"ed25519", kind), value),
+        Some(kind) => fault_without_fws(
+            is_key_kind(b"rsa", kind),
+            is_key_kind(b"ed25519", kind),
+            value,
+        ),
         None => fault_without_fws(true, false, value),
     }
 }
