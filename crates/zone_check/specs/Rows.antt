@@ -165,7 +165,7 @@ unfolding finding_rows first_rows later_rows way_rows
 inherited_owner = refl
 
 -- the root is assumed as the origin: a mail name of one label is not a slip
-mail_below_root : rule_findings Rtype.soa (record { begins_blank = false; is_below_root = true }) [] [] (coded_rule SoaMail 1 ∷ []) ≡ []
+mail_below_root : rule_findings Rtype.soa [] (record { begins_blank = false; is_below_root = true }) [] [] (coded_rule SoaMail 1 ∷ []) ≡ []
 mail_below_root = refl
 
 -- ` A 192.0.2.1`

@@ -5,10 +5,11 @@ use Rattle.dns_lexer.specs.EntryTokens.{TokenSeen, token_seen}
 use Rattle.dns_lexer.specs.declared.entry_tokens.EntryToken.{EntryToken}
 use Rattle.finding_codes.specs.Rule.{rule_part}
 use Rattle.finding_codes.specs.declared.code.Code.{Code}
-use Rattle.finding_codes.specs.declared.code.Code.TheVariants.{SoaMail}
+use Rattle.finding_codes.specs.declared.code.Code.TheVariants.{SoaMail, Spf}
 use Rattle.finding_codes.specs.declared.rule.Rule.{Rule}
 use Rattle.finding_codes.specs.declared.table.Part.{Part}
 use Rattle.finding_codes.specs.declared.table.Part.TheVariants.{Whole, Owner as OwnOwner, Target, Last, Field}
+use Rattle.mail_texts.specs.Joined.{joint_index}
 use Rattle.rdata_fields.specs.declared.record_ref.RecordRef.{RecordRef}
 use Rattle.rdata_values.specs.Rtype as Rtype
 use Rattle.rdata_values.specs.declared.types.RecordType.{RecordType}
@@ -85,12 +86,25 @@ finding_at_rule rule tokens (Some t) = finding_of_token rule.code (RuleAtToken r
 abbrev pub rule_finding : Rule → RecordType → (begins_blank : Bool) → (tokens words : List TokenSeen) → EntryFinding
 rule_finding rule rtype begins_blank tokens words = finding_at_rule rule tokens (if is_owner (rule_part rule) then own_owner begins_blank tokens else token_of_field words (index_of_part (rule_part rule) rtype (length words)))
 
+abbrev is_spf : Code → Bool
+is_spf Spf = true
+is_spf _ = false
+
+-- the third way of `spf`, which is at the second of two strings
+abbrev pub is_joint_rule : Rule → Bool
+is_joint_rule rule = is_spf rule.code && rule.way == 2
+
+-- such strings of RDATA break the rule, or what breaks others
+abbrev pub placed_finding : Rule → RecordType → List ℕ → (begins_blank : Bool) → (tokens words : List TokenSeen) → EntryFinding
+placed_finding rule rtype octets begins_blank tokens words =
+    if is_joint_rule rule then finding_at_rule rule tokens (token_of_field words (joint_index octets)) else rule_finding rule rtype begins_blank tokens words
+
 -- a finding for each rule that is not omitted
-abbrev pub rule_findings : RecordType → RuleContext → (tokens words : List TokenSeen) → List Rule → List EntryFinding
-rule_findings rtype c tokens words rules = map (λ rule. rule_finding rule rtype c.begins_blank tokens words) (filter (λ rule. not (is_omitted_rule rule c.is_below_root)) rules)
+abbrev pub rule_findings : RecordType → List ℕ → RuleContext → (tokens words : List TokenSeen) → List Rule → List EntryFinding
+rule_findings rtype octets c tokens words rules = map (λ rule. placed_finding rule rtype octets c.begins_blank tokens words) (filter (λ rule. not (is_omitted_rule rule c.is_below_root)) rules)
 
 -- the rules that a record breaks, as it is written
 abbrev pub AreRuleFindings : RecordRef → List ℕ → RuleContext → List EntryToken → (before after : List EntryFinding) → Type 0
 AreRuleFindings r octets c tokens before after =
     (words : List EntryToken) × AreDataTokens c.begins_blank tokens words × (written : Option Written) × IsWrittenAs octets (map token_seen words) written
-    × (after ≡ before ++ rule_findings r.rtype c (map token_seen tokens) (map token_seen words) (found_alone r written))
+    × (after ≡ before ++ rule_findings r.rtype r.data.now c (map token_seen tokens) (map token_seen words) (found_alone r written))

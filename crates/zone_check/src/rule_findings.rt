@@ -2,7 +2,7 @@
 ghost use Rattle.std.specs.Prelude.{◌≡◌, ◌++◌, OnOk, drop, map};
 ghost use Rattle.dns_lexer.specs.EntryTokens.{token_seen};
 ghost use Rattle.zone_check.specs.NameFindings.{own_owner};
-ghost use Rattle.zone_check.specs.RuleFindings.{AreRuleFindings, IsWrittenAs, index_of_part, finding_at_rule, has_quoted, is_omitted_rule, is_owner, rule_finding, rule_findings, target_index, token_of_field, token_with_index};
+ghost use Rattle.zone_check.specs.RuleFindings.{AreRuleFindings, IsWrittenAs, index_of_part, finding_at_rule, has_quoted, is_joint_rule, is_omitted_rule, is_owner, placed_finding, rule_finding, rule_findings, target_index, token_of_field, token_with_index};
 
 use crate::entry_words::data_tokens;
 use crate::finding::{About, EntryFinding, finding_of_entry, finding_of_token};
@@ -11,6 +11,7 @@ use dns_lexer::entry_tokens::EntryToken;
 use finding_codes::code::Code;
 use finding_codes::rule::Rule;
 use finding_codes::table::Part;
+use mail_texts::joint_index;
 use rdata_fields::RecordRef;
 use rdata_values::RecordType;
 use record_rules::{Written, broken_rules};
@@ -163,21 +164,47 @@ fn rule_finding(
     finding_at_field(rule, index_of_part(part, rtype, words.len()), tokens, words)
 }
 
+/// Returns whether a rule is about strings that are joined without a blank, and at the second of them.
+fn is_joint_rule(rule: Rule) -> bool
+    ensures { result ≡ is_joint_rule rule }
+{
+    matches!(rule.code, Code::Spf) && rule.way == 2
+}
+
+/// Returns the finding about a rule that a record breaks, at a string that is joined without a blank if
+/// the rule is about that.
+fn placed_finding(
+    rule: Rule,
+    record: &RecordRef<'_>,
+    begins_blank: bool,
+    tokens: &[EntryToken<'_>],
+    words: &[EntryToken<'_>],
+) -> EntryFinding
+    ensures { result ≡ placed_finding rule «record».now.rtype «record».now.data.now begins_blank
+        (map token_seen tokens.now) (map token_seen words.now) }
+{
+    if is_joint_rule(rule) {
+        finding_at_field(rule, joint_index(record.data), tokens, words)
+    } else {
+        rule_finding(rule, record.rtype, begins_blank, tokens, words)
+    }
+}
+
 /// Appends the findings about the rules that a record breaks. Fails without memory.
 fn append_rules(
     rules: &[Rule],
-    rtype: RecordType,
+    record: &RecordRef<'_>,
     context: RuleContext,
     tokens: &[EntryToken<'_>],
     words: &[EntryToken<'_>],
     found: &mut Vec<EntryFinding>,
 ) -> Result<(), AllocError>
     ensures { OnOk result (found.new.items ≡ found.old.items
-        ++ rule_findings rtype context (map token_seen tokens.now) (map token_seen words.now) rules.now) }
+        ++ rule_findings «record».now.rtype «record».now.data.now context (map token_seen tokens.now) (map token_seen words.now) rules.now) }
 {
     for rule in rules {
         if !is_omitted_rule(*rule, context.is_below_root) {
-            found.push(rule_finding(*rule, rtype, context.begins_blank, tokens, words))?;
+            found.push(placed_finding(*rule, record, context.begins_blank, tokens, words))?;
         }
     }
     Ok(())
@@ -206,7 +233,7 @@ pub fn find_in_rules(
     let rules = broken_rules(record, how_written(octets, words));
     append_rules(
         rules.as_slice(),
-        record.rtype,
+        record,
         context,
         tokens,
         words,

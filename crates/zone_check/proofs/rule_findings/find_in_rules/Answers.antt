@@ -13,7 +13,7 @@ returns c =
       c.how_written.result,
       c.how_written.ensures,
       subst
-          (λ l. c.append_rules.new.found.items ≡ c.args.found.now.items ++ rule_findings c.args.record.now.rtype c.args.context (map token_seen c.args.tokens.now) (map token_seen c.data_tokens-words.result.now) l)
+          (λ l. c.append_rules.new.found.items ≡ c.args.found.now.items ++ rule_findings c.args.record.now.rtype c.args.record.now.data.now c.args.context (map token_seen c.args.tokens.now) (map token_seen c.data_tokens-words.result.now) l)
           (c.as_slice.ensures.value ∙ c.broken_rules-rules.ensures) e,
     ))
     c.append_rules.ensures
