@@ -231,12 +231,5 @@ pub fn find_in_rules(
 {
     let words = data_tokens(tokens, context.begins_blank);
     let rules = broken_rules(record, how_written(octets, words));
-    append_rules(
-        rules.as_slice(),
-        record,
-        context,
-        tokens,
-        words,
-        found,
-    )
+    append_rules(rules.as_slice(), record, context, tokens, words, found)
 }
