@@ -33,7 +33,7 @@ ns RRSIG A 13 2 60 {TIMES}
 ns RRSIG NSEC 13 2 60 {TIMES}
 """.encode()
 # Codes whose examples can't be tried alone, and the options of others.
-ALONE = {"class", "file", "include-ttl", "no-nsec3", "nsec3-next", "nsec3-types", "rrsig-key", "key-missing"}
+ALONE = {"class", "delegation", "delegation-ds", "file", "glue-differs", "include-ttl", "no-nsec3", "nsec3-next", "nsec3-types", "rrsig-key", "key-missing"}
 OPTIONS = {"max-ttl": ["--max-ttl", "1d"], "max-entry": ["--max-entry", "64K"]}
 HEAD = """# Codes of findings
 

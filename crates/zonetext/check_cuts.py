@@ -143,7 +143,7 @@ def check_row(program, row, folder):
     put(f'{folder}/named.conf', views)
     put(f'{folder}/list', ''.join(f'{zone}. {zone}.zone\n' for zone in reversed(zones)))
     for way in (['--zone-from-name', *files], ['--zone-from-name', *reversed(files)], ['.'], ['--conf', 'named.conf'], ['--zones', 'list']):
-        got = run(program, 'check', *words, *way, cwd=folder)
+        got = run(program, 'check', '--no-dnssec', *words, *way, cwd=folder)
         found = [line.removeprefix('./') for line in shown(got[2])]
         same(f'{name}: {way[0]}', (got[0], found), (status, lines))
         if name in LAST and way[0] in ('.', '--conf'):
@@ -335,7 +335,7 @@ def check_family(program, folder, seed):
             rows += [f'{text_of(chance, apex)} {file}-2\n']
     chance.shuffle(rows)
     put(f'{folder}/list', ''.join(rows))
-    got = run(program, 'check', '--json', '--zones', 'list', cwd=folder)
+    got = run(program, 'check', '--no-dnssec', '--json', '--zones', 'list', cwd=folder)
     found = [json.loads(line) for line in got[1].splitlines()]
     found = sorted((one['file'], one['line'], one['code']) for one in found if one['code'] in CODES)
     expected = wanted(zones, twice)
