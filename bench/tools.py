@@ -70,7 +70,7 @@ def mix(source, number):
         lambda: f"{name} IN A 192.0.{number >> 8 & 255}.{number & 255}\n",
         lambda: f"{name} IN AAAA 2001:db8:{number & 65535:x}::{number >> 4 & 65535:x}\n",
         lambda: f"{name} IN MX 10 mail{number % 97}.example.\n",
-        lambda: f'{name} IN TXT "v=spf1 include:_spf{number % 31}.example.net ~all" "second text {number}"\n',
+        lambda: f'{name} IN TXT "v=spf1 include:_spf{number % 31}.example.net" " a:text{number}.example ~all"\n',
         lambda: f"{name} IN NS ns1.{name}.example.\nns1.{name} IN A 198.51.100.{number & 255}\n",
         lambda: (f"{name} 86400 IN NS ns1.example.\n{name} 86400 IN DS {number & 65535} 13 2 ( {hexadecimal(source, 16)}\n"
                  f"\t{hexadecimal(source, 16)} ) ; key {number}\n"),
