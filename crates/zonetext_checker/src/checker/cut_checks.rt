@@ -66,6 +66,9 @@ fn keep_record<Origin: AsOctets, Z: ZoneRecords>(
     let Some(location) = checked.held.location(place) else {
         return Ok(());
     };
+    if place >= checked.held.records.len() {
+        return Ok(());
+    }
     let mut buffer = OwnerBuffer::new();
     let record = checked.held.records.record(place, &mut buffer);
     if is_rejected(zone, &record) {
