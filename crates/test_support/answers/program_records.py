@@ -463,6 +463,9 @@ def rules_row(codes, *options):
         files = {"f": text}
         commands = [zonetext("check", *zone, *options, *more, "--json", "--max", "0", "f"), zonetext("records", *zone, "f")]
         wanted = sorted(items(row.wanted))
+        # `check` warns of signatures that expire soon only with a margin.
+        if times and times[1] == b"0":
+            wanted = [it for it in wanted if not it.startswith(b"expires-soon ")]
         # `check` does not report a duplicate SOA.
         if any(it.startswith(b"duplicate ") and it.endswith(b" SOA") for it in wanted):
             return None
