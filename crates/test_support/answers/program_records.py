@@ -10,7 +10,7 @@ from row_file import octets_of
 RULES = {
     "no-soa", "no-ns", "outside", "two-soas", "ns-address", "cname", "dname", "below-dname", "ds-apex", "wildcard-ns",
     "soa-not-apex", "ns-beside-dname", "nsec3-wildcard",
-    "glue", "target-cname", "target-missing", "host-name", "cds", "ds-without-ns", "not-at-apex", "key-protocol",
+    "glue", "target-cname", "target-missing", "host-name", "cds", "cds-delete", "key-beside-cname", "ds-without-ns", "not-at-apex", "key-protocol",
     "key-algorithm", "cname-target-missing", "cname-loop", "two-spf", "weak-digest", "single-ns",
     "null-mx", "zonemd-serial", "tlsa-host", "svcb-alias", "ttl-differs", "duplicate",
 }
@@ -18,7 +18,7 @@ SECURITY = {
     "expired", "expires-soon", "not-yet-valid", "rrsig-times", "rrsig-signer", "rrsig-labels", "rrsig-length", "original-ttl",
     "rrsig-ttl", "unsigned", "no-key", "key-missing", "rrsig-key", "rrsig-algorithm", "key-length", "signs-nothing",
     "occluded-dnssec", "no-nsec", "nsec-next", "nsec-types", "no-nsec3", "nsec3-next", "nsec3-types",
-    "nsec3-owner", "nsec3-iterations", "nsec3-iterations-50", "nsec3-iterations-0", "nsec-ttl", "nsec3-extra", "opt-out", "cds-delete",
+    "nsec3-owner", "nsec3-iterations", "nsec3-iterations-50", "nsec3-iterations-0", "nsec-ttl", "nsec3-extra", "opt-out", "cds-key", "cds-differs",
 }
 # Codes that are not shown at a word with another one.
 BEATEN = {"ns-address": b"target-cname", "wildcard-inside": b"host-name"}
