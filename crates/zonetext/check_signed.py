@@ -16,7 +16,7 @@ import sys
 import tempfile
 
 sys.dont_write_bytecode = True
-from check_support import program_of
+from check_support import program_of, put
 
 ORIGIN = "example."
 # An apex, a host, a wildcard, empty non-terminals (c.b, b, y, z.y, x.z.y), delegations with and without DS, and glue.
@@ -245,11 +245,6 @@ def random_zone(chance):
         if chance.random() < 0.2 and not any(cut.endswith("." + name) for cut in cuts):
             lines.append(f'*.{name} TXT "any"')
     return lines
-
-
-def put(path, text):
-    with open(path, "w", encoding="utf-8") as file:
-        file.write(text)
 
 
 def public_keys(names, folder):
